@@ -1,0 +1,6 @@
+pub mod Coefficients
+pub mod Greatest
+pub mod Lines
+pub mod Order
+pub mod Ring
+pub mod Shifts

@@ -1,0 +1,5 @@
+pub mod Circle
+pub mod Lists
+pub mod Night
+pub mod Quadratics
+pub mod Triples
