@@ -1,0 +1,9 @@
+pub mod Between
+pub mod EpochOrder
+pub mod Fractions
+pub mod PairExamples
+pub mod Parts
+pub mod Reaches
+pub mod RisingLists
+pub mod Spread
+pub mod Turning

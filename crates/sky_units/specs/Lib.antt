@@ -1,0 +1,13 @@
+pub mod Arcs
+pub mod Coefficients
+pub mod Faults
+pub mod FracData
+pub mod Motion
+pub mod Nights
+pub mod Pairs
+pub mod Ranges
+pub mod SettingNames
+pub mod SettingsData
+pub mod SpotData
+pub mod TrackletData
+pub mod Tracks

@@ -1,0 +1,45 @@
+//! Units, spots, settings and the small lists that the linker's crates share.
+//!
+//! Times are counted in ticks of 10^-6 day of the modified Julian date, angles in 10^-6 degree.
+#![tactic(auto)]
+
+pub use angles::{lift, wrap};
+pub use arcs::{is_arc, is_arc_joined, spread_fault};
+pub use axis::Axis;
+pub use counts::Tally;
+pub use fraction::Frac;
+pub use joined::{joined_len, joined_spot};
+pub use lists::Places;
+pub use nights::night_of;
+pub use offsets::offset;
+pub use options::Settings;
+pub use reports::{Report, Track, Tracks};
+pub use setting_names::SetError;
+pub use sky::Spot;
+pub use statistics::Stats;
+use std::alloc::AllocError;
+pub use texts::{Groups, Word, Words};
+pub use tracklets::{TrackSet, Tracklet};
+
+mod angles;
+mod arcs;
+mod axis;
+mod counts;
+mod fraction;
+mod joined;
+mod lists;
+mod nights;
+mod offsets;
+mod options;
+mod reports;
+mod setting_names;
+mod sky;
+mod statistics;
+mod texts;
+mod tracklets;
+
+/// Want of memory, where it is the only error: another name of std's `AllocError`.
+pub type NoMemory = AllocError;
+
+#[cfg(test)]
+mod motion_tests;
