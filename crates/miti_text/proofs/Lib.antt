@@ -1,0 +1,11 @@
+pub mod Cutting
+pub mod DigitTexts
+pub mod Rounding
+pub mod Fractions
+pub mod Limits
+pub mod Kept
+pub mod Shown
+pub mod Digits
+pub mod Numbers
+pub mod Joined
+pub mod RoundTrip

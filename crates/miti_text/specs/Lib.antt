@@ -1,0 +1,9 @@
+pub mod Words
+pub mod Numerals
+pub mod Quantities
+pub mod Observation
+pub mod Lines
+pub mod Parts
+pub mod CanonicalOrder
+pub mod Examples
+pub mod Written
