@@ -1,0 +1,141 @@
+-- How a run ends, by its status.
+use Rattle.std.proofs.Common.{◌≡◌, ℕ, ◌+◌, ◌^◌, [], refl, sym, ◌∙◌, ap, subst, arith, Bool, true, false}
+use Rattle.std.specs.Prelude.{IfSome, Result, Ok, Err, ◌↔◌}
+use Rattle.std.specs.Io.KnownBytes.{IsAtEnd}
+use Rattle.outer_io.specs.Supply.{Supply, Rises}
+use Rattle.outer_io.specs.Receipt.{Receipt}
+use Rattle.outer_io.specs.Reading.{Reading, ahead, CountsOn, Ends, FaultsAfter}
+use Rattle.outer_io.specs.declared.line_reader.Got.{Got}
+use Rattle.outer_io.specs.declared.line_reader.Got.TheVariants.{End}
+use Rattle.outer_io.specs.declared.line_reader.ReadStop.{ReadStop}
+use Rattle.outer_io.specs.declared.line_reader.ReadStop.TheVariants.{Failed, TooLong}
+use Rattle.mops_run.specs.Sky.{State}
+use Rattle.mops_run.specs.Answering.{FailsToAnswer}
+use Rattle.mops_run.specs.Promise.{WritesAll, WritesFront, Watches, IsSpent}
+use Rattle.mops_run.specs.declared.top.Status.TheVariants.{Done, DoneWithRefusals, ReadFault, WriteFault, NoMemory, InputTooLong}
+use Rattle.mops_run.proofs.SoFar.{SoFar, NextLine, WritesFront-so_far, WritesFront-failed, WritesAll-end, Takes-within, or_true, risen-then}
+
+-- a write failed in the middle of the replies to a line
+pub Watches-write_fault : (source_old : Supply) (reader reader' : Reading) (source source' : Supply) (sink_old sink sink' : Receipt) (number : ℕ) (state : State) (refused : Bool)
+    → SoFar source_old reader source sink_old sink number state refused → NextLine reader reader' source source'
+    → FailsToAnswer (number + 1) state reader'.line sink sink' → Watches WriteFault source_old source' sink_old sink'
+Watches-write_fault source_old reader reader' source source' sink_old sink sink' number state refused so next failed =
+    let faults : sink.faults ≡ sink_old.faults = so.adds.faults in
+    record {
+      whole = tt;
+      front = WritesFront-failed source_old reader reader' source source' sink_old sink sink' number state refused so next failed;
+      spent = tt;
+      flushed = λ no. absurd no;
+      source_faults = next.faults ∙ so.faults;
+      sink_faults = subst (λ n. Rises n sink'.faults) faults failed.2.faults;
+      taken = Takes-within WriteFault source_old source source' reader reader' so.taken next.counts (λ h. cc) (λ h. omega (arith, h, next.within));
+      used = λ h. cc;
+    }
+
+-- memory was wanting for the replies to a line
+pub Watches-no_memory : (source_old : Supply) (reader reader' : Reading) (source source' : Supply) (sink_old sink sink' : Receipt) (number : ℕ) (state : State) (refused : Bool)
+    → SoFar source_old reader source sink_old sink number state refused → NextLine reader reader' source source'
+    → sink' ≡ sink → Watches NoMemory source_old source' sink_old sink'
+Watches-no_memory source_old reader reader' source source' sink_old sink sink' number state refused so next same = record {
+  whole = tt;
+  front = subst (λ (r : Receipt). IfSome source_old.left (λ input. WritesFront input sink_old r)) (sym same)
+      (WritesFront-so_far source_old reader source sink_old sink number state refused so);
+  spent = tt;
+  flushed = λ no. absurd no;
+  source_faults = next.faults ∙ so.faults;
+  sink_faults = ap (λ (r : Receipt). r.faults) same ∙ so.adds.faults;
+  taken = Takes-within NoMemory source_old source source' reader reader' so.taken next.counts (λ h. cc) (λ h. omega (arith, h, next.within));
+  used = λ h. cc;
+}
+
+-- a read failed behind the last whole line
+pub Watches-read_fault : (source_old : Supply) (reader reader' : Reading) (source source' : Supply) (sink_old sink : Receipt) (number : ℕ) (state : State) (refused : Bool)
+    (result : Result Got ReadStop) → SoFar source_old reader source sink_old sink number state refused → result ≡ Err Failed
+    → FaultsAfter result source.faults source'.faults → CountsOn reader reader' source source' → ((result ≡ Err TooLong) ↔ (reader'.took ≡ 2 ^ 32))
+    → Watches ReadFault source_old source' sink_old sink
+Watches-read_fault source_old reader reader' source source' sink_old sink number state refused result so is faults counts limit =
+    let rises : Rises source.faults source'.faults = subst (λ (r : Result Got ReadStop). FaultsAfter r source.faults source'.faults) is faults in
+    record {
+      whole = tt;
+      front = WritesFront-so_far source_old reader source sink_old sink number state refused so;
+      spent = tt;
+      flushed = λ _. so.adds.whole;
+      source_faults = subst (λ n. Rises n source'.faults) so.faults rises;
+      sink_faults = so.adds.faults;
+      taken = Takes-within ReadFault source_old source source' reader reader' so.taken counts (λ h. cc)
+          (λ h. let long : result ≡ Err TooLong = limit.1 h in cc);
+      used = λ h. cc;
+    }
+
+-- a byte came behind as many as an input may have
+pub Watches-too_long : (source_old : Supply) (reader reader' : Reading) (source source' : Supply) (sink_old sink : Receipt) (number : ℕ) (state : State) (refused : Bool)
+    (result : Result Got ReadStop) → SoFar source_old reader source sink_old sink number state refused → result ≡ Err TooLong
+    → FaultsAfter result source.faults source'.faults → CountsOn reader reader' source source' → ((result ≡ Err TooLong) ↔ (reader'.took ≡ 2 ^ 32))
+    → Watches InputTooLong source_old source' sink_old sink
+Watches-too_long source_old reader reader' source source' sink_old sink number state refused result so is faults counts limit =
+    let same : source'.faults ≡ source.faults = subst (λ (r : Result Got ReadStop). FaultsAfter r source.faults source'.faults) is faults in
+    record {
+      whole = tt;
+      front = WritesFront-so_far source_old reader source sink_old sink number state refused so;
+      spent = tt;
+      flushed = λ _. so.adds.whole;
+      source_faults = same ∙ so.faults;
+      sink_faults = so.adds.faults;
+      taken = (
+        reader'.took,
+        risen-then source_old.taken source.taken source'.taken reader.took reader'.took so.taken counts.taken counts.rises,
+        counts.within,
+        (λ _. limit.0 is, λ _. refl),
+      );
+      used = λ h. cc;
+    }
+
+-- the end was answered in this call or before
+spent-at_end : (source_old : Supply) (reader reader' : Reading) (source source' : Supply) (sink_old sink : Receipt) (number : ℕ) (state : State) (refused : Bool)
+    → SoFar source_old reader source sink_old sink number state refused → Ends reader reader' source source' → reader'.ended ≡ true
+    → (reader.ended ≡ true → source' ≡ source) → IsSpent source'
+spent-at_end source_old reader reader' source source' sink_old sink number state refused so ends ended over = cases reader.ended refl
+  where
+    cases : (b : Bool) → reader.ended ≡ b → IsSpent source'
+    cases true was = subst (λ (s : Supply). (s.ended ≡ true) × IsAtEnd s.left) (sym (over was)) (so.spent was)
+    cases false was = (ends.marked was ∙ rw ended (or_true source.ended), ends.none_left was ended)
+
+-- all was read and answered, and nothing was refused
+pub Watches-done : (source_old : Supply) (reader reader' : Reading) (source source' : Supply) (sink_old sink : Receipt) (number : ℕ) (state : State) (refused : Bool)
+    (result : Result Got ReadStop) → SoFar source_old reader source sink_old sink number state refused → result ≡ Ok End → refused ≡ false
+    → (result ≡ Ok End → IfSome (ahead reader source) (λ bytes. bytes ≡ [])) → (result ≡ Ok End → reader'.ended ≡ true)
+    → FaultsAfter result source.faults source'.faults → CountsOn reader reader' source source' → ((result ≡ Err TooLong) ↔ (reader'.took ≡ 2 ^ 32))
+    → Ends reader reader' source source' → (reader.ended ≡ true → source' ≡ source) → Watches Done source_old source' sink_old sink
+Watches-done source_old reader reader' source source' sink_old sink number state refused result so is none end answered faults counts limit ends over =
+    let same : source'.faults ≡ source.faults = subst (λ (r : Result Got ReadStop). FaultsAfter r source.faults source'.faults) is faults in
+    record {
+      whole = subst (λ b. IfSome source_old.left (λ input. WritesAll input sink_old sink b)) none
+          (WritesAll-end source_old reader source sink_old sink number state refused so (end is));
+      front = WritesFront-so_far source_old reader source sink_old sink number state refused so;
+      spent = spent-at_end source_old reader reader' source source' sink_old sink number state refused so ends (answered is) over;
+      flushed = λ _. so.adds.whole;
+      source_faults = same ∙ so.faults;
+      sink_faults = so.adds.faults;
+      taken = Takes-within Done source_old source source' reader reader' so.taken counts (λ h. cc) (λ h. let long : result ≡ Err TooLong = limit.1 h in cc);
+      used = λ h. cc;
+    }
+
+-- all was read and answered, and something was refused
+pub Watches-refused : (source_old : Supply) (reader reader' : Reading) (source source' : Supply) (sink_old sink : Receipt) (number : ℕ) (state : State) (refused : Bool)
+    (result : Result Got ReadStop) → SoFar source_old reader source sink_old sink number state refused → result ≡ Ok End → refused ≡ true
+    → (result ≡ Ok End → IfSome (ahead reader source) (λ bytes. bytes ≡ [])) → (result ≡ Ok End → reader'.ended ≡ true)
+    → FaultsAfter result source.faults source'.faults → CountsOn reader reader' source source' → ((result ≡ Err TooLong) ↔ (reader'.took ≡ 2 ^ 32))
+    → Ends reader reader' source source' → (reader.ended ≡ true → source' ≡ source) → Watches DoneWithRefusals source_old source' sink_old sink
+Watches-refused source_old reader reader' source source' sink_old sink number state refused result so is some end answered faults counts limit ends over =
+    let same : source'.faults ≡ source.faults = subst (λ (r : Result Got ReadStop). FaultsAfter r source.faults source'.faults) is faults in
+    record {
+      whole = subst (λ b. IfSome source_old.left (λ input. WritesAll input sink_old sink b)) some
+          (WritesAll-end source_old reader source sink_old sink number state refused so (end is));
+      front = WritesFront-so_far source_old reader source sink_old sink number state refused so;
+      spent = spent-at_end source_old reader reader' source source' sink_old sink number state refused so ends (answered is) over;
+      flushed = λ _. so.adds.whole;
+      source_faults = same ∙ so.faults;
+      sink_faults = so.adds.faults;
+      taken = Takes-within DoneWithRefusals source_old source source' reader reader' so.taken counts (λ h. cc) (λ h. let long : result ≡ Err TooLong = limit.1 h in cc);
+      used = λ h. cc;
+    }

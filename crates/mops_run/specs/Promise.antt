@@ -1,0 +1,90 @@
+-- What a run of the program promises of the bytes that it reads and writes.
+use Rattle.std.specs.Prelude.{◌≡◌, ◌≢◌, ◌⊎◌, ◌^◌, ◌≤◌, ◌↔◌, ℕ, Bool, true, false, List, [], ◌∷◌, Option, Some, None, IfSome, codes}
+use Rattle.std.specs.List.{list_any}
+use Rattle.std.specs.Str.Lines.{lines}
+use Rattle.std.specs.Io.KnownBytes.{IsAtEnd}
+use Rattle.outer_io.specs.Supply.{Supply, Rises, risen}
+use Rattle.outer_io.specs.Receipt.{Receipt, IsFlushed}
+use Rattle.mops_run.specs.Replies.{is_refusal}
+use Rattle.mops_run.specs.Texts.{text_of_all}
+use Rattle.mops_run.specs.Output.{Adds, AddsFront}
+use Rattle.mops_run.specs.Watch.{AnswersAll}
+use Rattle.mops_run.specs.declared.replies.Reply.{Reply}
+use Rattle.mops_run.specs.declared.top.Status.{Status}
+use Rattle.mops_run.specs.declared.top.Status.TheVariants.{Done, DoneWithRefusals, Usage, ReadFault, WriteFault, NoMemory, InputTooLong}
+
+-- the one form of the program's words so far
+abbrev pub AreWatch : List (List ℕ) → Type 0
+AreWatch words = words ≡ codes "watch" ∷ []
+
+-- whether something was refused, where a status says that the run is done
+abbrev pub refused_by : Status → Option Bool
+refused_by Done = Some false
+refused_by DoneWithRefusals = Some true
+refused_by Usage = None
+refused_by ReadFault = None
+refused_by WriteFault = None
+refused_by NoMemory = None
+refused_by InputTooLong = None
+
+-- the texts of the replies to all lines of the input were added, and one of these is a refusal or none is
+abbrev pub WritesAll : List ℕ → Receipt → Receipt → Bool → Type 0
+WritesAll input old new refused =
+    (replies : List Reply) × AnswersAll (lines input) replies × Adds old new (text_of_all replies) × (refused ≡ list_any is_refusal replies)
+
+-- a front of the texts of the replies to all lines of the input was added
+abbrev pub WritesFront : List ℕ → Receipt → Receipt → Type 0
+WritesFront input old new = (replies : List Reply) → AnswersAll (lines input) replies → AddsFront old new (text_of_all replies)
+
+-- the end of the input was marked, and nothing is left
+abbrev pub IsSpent : Supply → Type 0
+IsSpent source = (source.ended ≡ true) × IsAtEnd source.left
+
+-- the source counted a fault exactly where the run ended by it
+abbrev pub SourceFaults : Status → ℕ → ℕ → Type 0
+SourceFaults ReadFault old new = Rises old new
+SourceFaults Done old new = new ≡ old
+SourceFaults DoneWithRefusals old new = new ≡ old
+SourceFaults Usage old new = new ≡ old
+SourceFaults WriteFault old new = new ≡ old
+SourceFaults NoMemory old new = new ≡ old
+SourceFaults InputTooLong old new = new ≡ old
+
+-- the sink counted a fault exactly where the run ended by it
+abbrev pub SinkFaults : Status → ℕ → ℕ → Type 0
+SinkFaults WriteFault old new = Rises old new
+SinkFaults Done old new = new ≡ old
+SinkFaults DoneWithRefusals old new = new ≡ old
+SinkFaults Usage old new = new ≡ old
+SinkFaults ReadFault old new = new ≡ old
+SinkFaults NoMemory old new = new ≡ old
+SinkFaults InputTooLong old new = new ≡ old
+
+-- so many bytes were taken from the source, and the run ended by them exactly where they are 2^32
+abbrev pub Takes : Status → Supply → Supply → Type 0
+Takes status old new =
+    (count : ℕ) × (new.taken ≡ risen old.taken count) × (count ≤ 2 ^ 32) × ((status ≡ InputTooLong) ↔ (count ≡ 2 ^ 32))
+
+-- the run neither failed to write nor wanted memory
+abbrev pub EndsByReading : Status → Type 0
+EndsByReading Done = Unit {0}
+EndsByReading DoneWithRefusals = Unit {0}
+EndsByReading ReadFault = Unit {0}
+EndsByReading InputTooLong = Unit {0}
+EndsByReading Usage = ⊥
+EndsByReading WriteFault = ⊥
+EndsByReading NoMemory = ⊥
+
+-- how answering the lines of a source on a sink ended, by its status
+pub record Watches (status : Status) (source_old source_new : Supply) (sink_old sink_new : Receipt) : Type 0 where
+  -- where the bytes of the input are told: all replies are written, or a front of them
+  pub whole : IfSome (refused_by status) (λ refused. IfSome source_old.left (λ input. WritesAll input sink_old sink_new refused))
+  pub front : IfSome source_old.left (λ input. WritesFront input sink_old sink_new)
+  -- a run that is done has read all there is
+  pub spent : IfSome (refused_by status) (λ refused. IsSpent source_new)
+  -- all that was written is flushed, unless a write failed or memory was wanting
+  pub flushed : EndsByReading status → (sink_new ≡ sink_old) ⊎ IsFlushed sink_new
+  pub source_faults : SourceFaults status source_old.faults source_new.faults
+  pub sink_faults : SinkFaults status sink_old.faults sink_new.faults
+  pub taken : Takes status source_old source_new
+  pub used : status ≢ Usage

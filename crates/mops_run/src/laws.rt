@@ -1,0 +1,12 @@
+//! Laws over the definitions alone, each the contract of a function with nothing to do.
+ghost use Rattle.mops_run.specs.Watch.{RepliesAreUnique, RepliesExist};
+
+/// The lines of an input have only one list of replies.
+pub fn replies_are_unique()
+    ensures { RepliesAreUnique }
+{}
+
+/// The lines of an input have a list of replies.
+pub fn replies_exist()
+    ensures { RepliesExist }
+{}
