@@ -1,0 +1,6 @@
+pub mod Admitted
+pub mod EachThree
+pub mod Ends
+pub mod MarkLists
+pub mod Sizes
+pub mod Steps

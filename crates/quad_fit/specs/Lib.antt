@@ -1,0 +1,4 @@
+pub mod Intervals
+pub mod Laws
+pub mod MarkRanges
+pub mod Seen
