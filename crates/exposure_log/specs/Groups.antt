@@ -1,0 +1,105 @@
+-- How the log keeps its exposures: each a list of numbers, whose detections stand in the slots.
+use Rattle.std.specs.Prelude.{◌≡◌, ◌≢◌, ℕ, ◌<◌, ◌≤◌, ◌==◌, ℤ, cond, Option, None, Some, List, [], ◌∷◌, length, slice_index, slice_index_or, ⊤, ◌⊎◌, Bool, not, ◌&&◌}
+use Rattle.std.specs.List.{All, Contains, filter_map, list_any, sum_by}
+use Rattle.std.specs.Option.{option_map}
+use Rattle.std.specs.declared.cmp.Ordering.{Ordering}
+use Rattle.std.specs.declared.cmp.Ordering.TheVariants.{Less}
+use Rattle.std.specs.Int.Signed.{lt_z}
+use Rattle.sky_math.specs.Night.{night_at}
+use Rattle.std.specs.Ordering.{int_cmp, nat_cmp, ordering_then}
+use Rattle.std.specs.Cmp.Lexicographic.{slice_cmp}
+use Rattle.sky_units.specs.Ranges.{IsEpoch}
+use Rattle.miti_text.specs.Observation.{Observation}
+use Rattle.exposure_log.specs.Held.{HeldExposure, most_detections}
+use Rattle.exposure_log.specs.Numbering.{slot, count_held, with_at, IsLeastFree}
+use Rattle.exposure_log.specs.declared.groups.Group.{Group}
+
+-- the detections of these numbers
+abbrev pub entries_of : List (Option Observation) → List ℕ → List (ℕ × Observation)
+entries_of slots numbers = filter_map (λ n. option_map (λ d. (n, d)) (slot slots n)) numbers
+
+-- the held exposure that a group is
+abbrev pub exposure_of : List (Option Observation) → Group → HeldExposure
+exposure_of slots g = record { epoch = g.epoch; site = g.site; detections = entries_of slots g.numbers.items }
+
+-- a group's numbers are those of held detections of its epoch and site, in strict order of id
+pub record IsGroup (slots : List (Option Observation)) (g : Group) : Type 0 where
+  pub some : 0 < length g.numbers.items
+  pub epoch_in_range : IsEpoch g.epoch
+  pub held : (k : ℕ) → k < length g.numbers.items → (d : Observation) × (slot slots (slice_index g.numbers.items k) ≡ Some d) × (d.epoch ≡ g.epoch) × (d.site ≡ g.site)
+  pub by_id : (j k : ℕ) (d e : Observation) → j < k → k < length g.numbers.items → slot slots (slice_index g.numbers.items j) ≡ Some d → slot slots (slice_index g.numbers.items k) ≡ Some e → slice_cmp nat_cmp d.id e.id ≡ Less
+
+-- how a group's place compares with an epoch and a site
+abbrev pub group_cmp : ℤ → List ℕ → Group → Ordering
+group_cmp epoch site g = ordering_then (int_cmp g.epoch epoch) (slice_cmp nat_cmp g.site site)
+
+-- the groups stand in strict order of epoch and site
+abbrev pub RiseStrictly : List Group → Type 0
+RiseStrictly groups = (i j : ℕ) (g : Group) → i < j → j < length groups → group_cmp (slice_index_or groups j g).epoch (slice_index_or groups j g).site (slice_index_or groups i g) ≡ Less
+
+-- numbers differ, place by place
+abbrev pub AreDistinct : List ℕ → Type 0
+AreDistinct numbers = (j k : ℕ) → j < k → k < length numbers → slice_index numbers j ≢ slice_index numbers k
+
+-- what has the number k once these numbers are let go
+abbrev pub without_numbers : (ℕ → Option Observation) → List ℕ → ℕ → Option Observation
+without_numbers at numbers k = cond (list_any (λ n. n == k) numbers) None (at k)
+
+-- the detections take the least free numbers, one after another
+abbrev pub TakeLeast : (ℕ → Option Observation) → List ℕ → List Observation → Type 0
+TakeLeast at [] [] = ⊤
+TakeLeast at [] (d ∷ ds) = ⊥
+TakeLeast at (n ∷ ns) [] = ⊥
+TakeLeast at (n ∷ ns) (d ∷ ds) = IsLeastFree at n × TakeLeast (with_at at n (Some d)) ns ds
+
+-- what has the number k once the detections have these numbers
+abbrev pub with_all : (ℕ → Option Observation) → List ℕ → List Observation → ℕ → Option Observation
+with_all at [] ds = at
+with_all at (n ∷ ns) [] = at
+with_all at (n ∷ ns) (d ∷ ds) = with_all (with_at at n (Some d)) ns ds
+
+pub record Takes (before : ℕ → Option Observation) (numbers : List ℕ) (ds : List Observation) (after : ℕ → Option Observation) : Type 0 where
+  pub least : TakeLeast before numbers ds
+  pub is : after ≡ with_all before numbers ds
+
+-- the groups stand in strict order of epoch and site, and hold each detection
+pub record AreGroups (slots : List (Option Observation)) (groups : List Group) : Type 0 where
+  pub in_order : RiseStrictly groups
+  pub each : All (IsGroup slots) groups
+  pub none_else : (n : ℕ) (d : Observation) → slot slots n ≡ Some d → (g : Group) × Contains groups g × Contains g.numbers.items n
+  pub count : count_held slots ≡ sum_by (λ g. length g.numbers.items) groups
+  pub few : count_held slots ≤ most_detections
+
+-- the id at place k is held by nobody
+abbrev pub IsFresh : (ℕ → Option Observation) → List Observation → ℕ → Type 0
+IsFresh at list k = (n : ℕ) (d e : Observation) → at n ≡ Some d → d.id ≢ (slice_index_or list k e).id
+
+-- the id at place k differs from those of earlier places
+abbrev pub IsApart : List Observation → ℕ → Type 0
+IsApart list k = (j : ℕ) (e : Observation) → j < k → (slice_index_or list j e).id ≢ (slice_index_or list k e).id
+
+-- no id before the place n is taken
+pub record NoneTaken (at : ℕ → Option Observation) (list : List Observation) (n : ℕ) : Type 0 where
+  pub fresh : (k : ℕ) → k < n → IsFresh at list k
+  pub apart : (k : ℕ) → k < n → IsApart list k
+
+-- the id at place i is held, or equals an earlier one
+abbrev pub IsTaken : (ℕ → Option Observation) → List Observation → ℕ → Type 0
+IsTaken at list i = ((n : ℕ) × (d : Observation) × (at n ≡ Some d) × (d.id ≡ (slice_index_or list i d).id)) ⊎ ((j : ℕ) × (j < i) × ((e : Observation) → (slice_index_or list j e).id ≡ (slice_index_or list i e).id))
+
+pub record IsFirstTaken (at : ℕ → Option Observation) (list : List Observation) (i : ℕ) : Type 0 where
+  pub within : i < length list
+  pub taken : IsTaken at list i
+  pub earlier : NoneTaken at list i
+
+-- a group stays by its place
+abbrev pub stays : (ℤ → List ℕ → Bool) → Group → Bool
+stays keep g = keep g.epoch g.site
+
+-- the number is that of a group that leaves
+abbrev pub gone : (ℤ → List ℕ → Bool) → List Group → ℕ → Bool
+gone keep groups n = list_any (λ g. not (stays keep g) && list_any (λ k. k == n) g.numbers.items) groups
+
+-- the places of a night and later
+abbrev pub keeps_night : ℤ → ℤ → ℤ → List ℕ → Bool
+keeps_night shift night epoch site = not (lt_z (night_at shift epoch) night)

@@ -1,0 +1,49 @@
+-- The held detections by number.
+use Rattle.std.specs.Prelude.{◌≡◌, ℕ, ◌+◌, ◌<◌, ◌&&◌, ◌==◌, Bool, not, nat_lt, nat_eq, cond, Option, Some, None, IsSome, is_some, List, length, [], ◌∷◌, ◌++◌, slice_set, slice_index_or, sum_by}
+use Rattle.std.specs.Cmp.Lexicographic.{pointwise}
+use Rattle.std.specs.Map.{lookup}
+use Rattle.std.specs.Global.{Vec}
+use Rattle.std.specs.declared.cmp.Reverse.{Reverse}
+use Rattle.std.specs.Ordering.{nat_cmp}
+use Rattle.std.specs.BinaryHeap.{IsHeap}
+use Rattle.miti_text.specs.Observation.{Observation}
+
+-- what has the number k, once `held` has the number n
+abbrev pub with_at : (ℕ → Option Observation) → ℕ → Option Observation → ℕ → Option Observation
+with_at at n held k = cond (k == n) held (at k)
+
+-- the least number that nothing has
+pub record IsLeastFree (at : ℕ → Option Observation) (n : ℕ) : Type 0 where
+  pub is_free : at n ≡ None
+  pub lower_are_taken : (k : ℕ) → k < n → IsSome (at k)
+
+-- the detection that has a number, where one has it: what stands in its slot
+abbrev pub slot : List (Option Observation) → ℕ → Option Observation
+slot slots n = slice_index_or slots n None
+
+-- how many detections are held
+abbrev pub count_held : List (Option Observation) → ℕ
+count_held slots = sum_by (λ held. cond (is_some held) 1 0) slots
+
+-- the slots once `held` is put at n: in its place, or in a new one behind the others
+abbrev pub put_at : List (Option Observation) → ℕ → Option Observation → List (Option Observation)
+put_at slots n held = cond (nat_lt n (length slots)) (slice_set slots n held) (slots ++ held ∷ [])
+
+-- the number of an id among the entries of the map
+abbrev pub number_of : List (Vec ℕ × ℕ) → List ℕ → Option ℕ
+number_of entries id = lookup (λ k. pointwise nat_eq id k.items) entries
+
+-- the map has the number of each held id, and no other id
+pub record AreNumbers (slots : List (Option Observation)) (entries : List (Vec ℕ × ℕ)) : Type 0 where
+  pub found : (n : ℕ) (d : Observation) → slot slots n ≡ Some d → number_of entries d.id ≡ Some n
+  pub named : (id : List ℕ) (n : ℕ) → number_of entries id ≡ Some n → (d : Observation) × (slot slots n ≡ Some d) × (d.id ≡ id)
+
+-- a slot is there, and is empty
+abbrev pub is_free : List (Option Observation) → ℕ → Bool
+is_free slots n = nat_lt n (length slots) && not (is_some (slot slots n))
+
+-- the heap has the number of each empty slot once, and no other, the least first
+pub record AreFree (slots : List (Option Observation)) (free : List (Reverse ℕ)) : Type 0 where
+  pub order : IsHeap (λ x y. nat_cmp y.0 x.0) free
+  pub each_once : (n : ℕ) → sum_by (λ x. cond (x.0 == n) 1 0) free ≡ cond (is_free slots n) 1 0
+  pub total : length free + count_held slots ≡ length slots

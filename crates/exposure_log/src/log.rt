@@ -1,0 +1,360 @@
+ghost use Rattle.std.specs.Prelude.{◌≡◌, ◌≢◌, ℕ, ℤ, ◌+◌, ◌^◌, ◌<◌, ◌≤◌, ◌≤ℤ◌, ◌<ℤ◌, pos, neg_ℤ, [], None, Some, IsSome, IfOk, IfErr, OnErr, OnOk, ◌++◌, IsTrue, false, cond, length, map, not, option_copied};
+ghost use Rattle.std.specs.List.{All, count_by, filter, list_any, sum_by};
+ghost use Rattle.sky_math.specs.Night.{night_at};
+ghost use Rattle.std.specs.Ordering.{int_eq, is_lt};
+ghost use Rattle.sky_units.specs.Ranges.{IsNightShift, IsEpoch};
+ghost use Rattle.miti_text.specs.Observation.{Observation};
+ghost use Rattle.miti_text.specs.CanonicalOrder.{canonical_cmp};
+ghost use Rattle.exposure_log.specs.Groups.{NoneTaken, IsFirstTaken, AreGroups, stays, gone, keeps_night, entries_of};
+ghost use Rattle.std.specs.Int.Signed.{lt_z};
+ghost use Rattle.exposure_log.specs.Numbering.{slot, count_held};
+ghost use Rattle.exposure_log.specs.Exposures.{IdsDontFall};
+ghost use Rattle.exposure_log.specs.Held.{LogData, Adds, CanBeHeld, Answers, refusal, held_refusal, room_refusal, held_at, detections_of, stands_at, without_exposure, window_refusal, moved, spots_of_night, spot_of, most_detections};
+ghost use Rattle.exposure_log.specs.declared.errors.AddError.TheVariants.{NoMemory as no_memory};
+
+use crate::canonical::compare;
+use crate::errors::{AddError, WindowError};
+use crate::exposures::Exposure;
+use crate::groups::{Group, free_place, insert, let_go_all, search, take_all};
+use crate::numbering::Register;
+use miti_text::Detection;
+use sky_units::{NoMemory, Spot, Word, night_of};
+use std::alloc::Global;
+use std::marker::Model;
+
+/// The most nights that a window has, less one.
+const WIDEST: i64 = 15;
+
+/// A day, in ticks.
+const TICKS_PER_DAY: i128 = 1_000_000;
+
+/// The most exposures of a night.
+const MOST_OF_A_NIGHT: usize = 4_096;
+
+/// The most detections that are held.
+const MOST_DETECTIONS: usize = 1_048_576;
+
+/// The held exposures, the window of nights that they lie in, and the shift by which nights are counted.
+///
+/// A detection keeps its number as long as it is held. A call that answers an error changes nothing.
+#[derive(Drop)]
+pub struct ExposureLog {
+    alloc: Global,
+    night_shift: i64,
+    window: Option<(i64, i64)>,
+    register: Register,
+    groups: Vec<Group>,
+}
+
+impl Model for ExposureLog {
+    ghost use Rattle.std.specs.Prelude.{map};
+    ghost use Rattle.sky_units.specs.Ranges.{IsNightShift, IsEpoch};
+    ghost use Rattle.exposure_log.specs.Held.{LogData};
+    ghost use Rattle.exposure_log.specs.Groups.{exposure_of, AreGroups};
+
+    ghost Value = { LogData };
+
+    ghost view = { λ log. record { night_shift = log.night_shift; window = log.window; exposures = map (exposure_of log.register) log.groups.items } };
+
+    ghost invariant = { λ log. IsNightShift log.night_shift × AreGroups log.register log.groups.items };
+}
+
+impl ExposureLog {
+    /// No window and nothing held, with nights counted by this shift (in ticks).
+    pub fn new(alloc: Global, night_shift: i64) -> Result<ExposureLog, NoMemory>
+        requires { IsNightShift night_shift }
+        ensures { IfOk result (λ log. log ≡ record { night_shift = night_shift; window = None; exposures = [] }) }
+    {
+        Ok(ExposureLog {
+            alloc,
+            night_shift,
+            window: None,
+            register: Register::new(alloc),
+            groups: Vec::new(alloc),
+        })
+    }
+
+    /// Counts nights by this shift (in ticks) from now on. No window may have been set. This takes
+    /// no memory.
+    pub fn set_shift(&mut self, night_shift: i64)
+        requires range { IsNightShift night_shift }
+        requires early { self.old.window ≡ None }
+        ensures { self.new ≡ record self.old { night_shift = night_shift } }
+    {
+        self.night_shift = night_shift;
+    }
+
+    /// The first and the last night of the window, if one was set.
+    pub fn window(&self) -> Option<(i64, i64)>
+        ensures { result ≡ self.now.window }
+    {
+        self.window
+    }
+
+    /// Whether the window can be moved to these nights, or the first cause why not. `NoMemory`
+    /// never comes.
+    pub fn check_window(&self, lo: i64, hi: i64) -> Result<(), WindowError>
+        requires lo_from { neg_ℤ (pos (10 ^ 18)) <ℤ lo }
+        requires lo_to { lo <ℤ pos (10 ^ 18) }
+        requires hi_from { neg_ℤ (pos (10 ^ 18)) <ℤ hi }
+        requires hi_to { hi <ℤ pos (10 ^ 18) }
+        ensures { Answers (window_refusal self.now.window lo hi) result }
+    {
+        if hi < lo {
+            return Err(WindowError::Order);
+        }
+        if hi - lo > WIDEST {
+            return Err(WindowError::Wide);
+        }
+        if let Some((first, last)) = self.window {
+            if lo < first {
+                return Err(WindowError::Back);
+            }
+            if hi < last {
+                return Err(WindowError::Back);
+            }
+        }
+        Ok(())
+    }
+
+    /// Takes out the exposure of this epoch and site; false where none is held there. This takes no
+    /// memory.
+    pub fn remove(&mut self, epoch: i64, site: &[u8]) -> bool
+        ensures found { result ≡ list_any (stands_at epoch site.now) self.old.exposures }
+        ensures rest { self.new ≡ record self.old { exposures = without_exposure epoch site.now self.old.exposures } }
+    {
+        let Ok(place) = search(self.groups.as_slice(), epoch, site) else {
+            return false;
+        };
+        let group = self.groups.remove(place);
+        let_go_all(&mut self.register, group.numbers.as_slice());
+        true
+    }
+
+    /// Holds the exposure from now on; the number of its detections. Each takes the least number
+    /// that is left.
+    pub fn add(&mut self, exposure: &Exposure) -> Result<u32, AddError>
+        ensures ok { IfOk result (λ n. (refusal self.old exposure.now ≡ None) × (n ≡ length exposure.now.detections) × Adds self.old self.new exposure.now) }
+        ensures err { IfErr result (λ e. (self.new ≡ self.old) × (e ≢ no_memory → refusal self.old exposure.now ≡ Some e)) }
+    {
+        if let Some(error) = self.refuses(exposure) {
+            return Err(error);
+        }
+        Ok(self.put(exposure)?)
+    }
+
+    /// Why the log doesn't take the exposure: the first cause that holds.
+    fn refuses(&self, exposure: &Exposure) -> Option<AddError>
+        ensures cause { result ≡ refusal self.now exposure.now }
+        ensures free { result ≡ None → CanBeHeld self.now exposure.now }
+    {
+        let Some((lo, hi)) = self.window else {
+            return Some(AddError::NoWindow);
+        };
+        let night = night_of(exposure.epoch(), self.night_shift);
+        if night < lo {
+            return Some(AddError::Old);
+        }
+        if hi < night {
+            return Some(AddError::New);
+        }
+        self.refuses_in_window(exposure)
+    }
+
+    /// Why the log doesn't take an exposure whose night lies in the window.
+    fn refuses_in_window(&self, exposure: &Exposure) -> Option<AddError>
+        ensures cause { result ≡ held_refusal self.now exposure.now }
+        ensures free { result ≡ None → CanBeHeld self.now exposure.now }
+    {
+        let epoch = exposure.epoch();
+        if let Ok(_) = search(self.groups.as_slice(), epoch, exposure.site()) {
+            return Some(AddError::Held);
+        }
+        if let Some(place) = first_taken(&self.register, exposure.detections()) {
+            return Some(AddError::Id(place));
+        }
+        self.refuses_for_room(exposure)
+    }
+
+    /// Why the log has no room for an exposure.
+    fn refuses_for_room(&self, exposure: &Exposure) -> Option<AddError>
+        ensures cause { result ≡ room_refusal self.now exposure.now }
+        ensures free { result ≡ None → length (detections_of self.now.exposures) + length exposure.now.detections ≤ most_detections }
+    {
+        let night = night_of(exposure.epoch(), self.night_shift);
+        if count_of_night(self.groups.as_slice(), self.night_shift, night) >= MOST_OF_A_NIGHT {
+            return Some(AddError::NightFull);
+        }
+        if self.detections() as usize + exposure.detections().len() > MOST_DETECTIONS {
+            return Some(AddError::Full);
+        }
+        None
+    }
+
+    /// Holds an exposure that nothing refuses.
+    fn put(&mut self, exposure: &Exposure) -> Result<u32, NoMemory>
+        requires { CanBeHeld self.old exposure.now }
+        ensures ok { IfOk result (λ n. (n ≡ length exposure.now.detections) × Adds self.old self.new exposure.now) }
+        ensures err { OnErr result (self.new ≡ self.old) }
+    {
+        let epoch = exposure.epoch();
+        let place = free_place(self.groups.as_slice(), epoch, exposure.site());
+        let site = Word::new(self.alloc, exposure.site())?;
+        self.groups.reserve(1)?;
+        let numbers = take_all(&mut self.register, self.alloc, exposure.detections())?;
+        let group = Group {
+            epoch,
+            site,
+            numbers,
+        };
+        insert(&mut self.groups, place, group);
+        Ok(exposure.detections().len() as u32)
+    }
+
+    /// Moves the window to these nights, and forgets the nights before it. `check_window` must answer
+    /// Ok. This takes no memory.
+    pub fn move_window(&mut self, lo: i64, hi: i64)
+        requires { window_refusal self.old.window lo hi ≡ None }
+        ensures { self.new ≡ moved self.old lo hi }
+    {
+        let shift = self.night_shift;
+        forget_before(&mut self.register, self.groups.as_slice(), shift, lo);
+        self.groups
+            .retain(|group| !lies_before(group.epoch, shift, lo));
+        self.window = Some((lo, hi));
+    }
+
+    /// The spots of a night in canonical order, each with its number as its label.
+    pub fn night(&self, night: i64) -> Result<Vec<Spot>, NoMemory>
+        ensures { IfOk result (λ spots. spots.items ≡ spots_of_night self.now night) }
+    {
+        let mut spots = Vec::new(self.alloc);
+        for group in &self.groups {
+            if night_of(group.epoch, self.night_shift) == night {
+                push_spots(&mut spots, &self.register, group.numbers.as_slice())?;
+            }
+        }
+        Ok(spots)
+    }
+
+    /// How many exposures are held.
+    pub fn exposures(&self) -> u32
+        ensures { result ≡ length self.now.exposures }
+    {
+        self.groups.len() as u32
+    }
+
+    /// How many detections are held.
+    pub fn detections(&self) -> u32
+        ensures { result ≡ length (detections_of self.now.exposures) }
+    {
+        self.register.count()
+    }
+
+    /// The held detection of this number.
+    pub fn detection(&self, num: u32) -> Option<&Detection>
+        ensures { option_copied result ≡ held_at self.now.exposures num }
+    {
+        self.register.get(num)
+    }
+
+    /// The number of the held detection of this id.
+    pub fn find(&self, id: &[u8]) -> Option<u32>
+        ensures none { result ≡ None → (n : ℕ) (d : Observation) → held_at self.now.exposures n ≡ Some d → d.id ≢ id.now }
+        ensures some { (n : ℕ) → result ≡ Some n → (d : Observation) × (held_at self.now.exposures n ≡ Some d) × (d.id ≡ id.now) }
+    {
+        self.register.find(id)
+    }
+
+    /// Whether the held detection of number `a` stands before that of number `b` in canonical order.
+    pub fn before(&self, a: u32, b: u32) -> bool
+        requires a { IsSome (held_at self.now.exposures a) }
+        requires b { IsSome (held_at self.now.exposures b) }
+        ensures { (d e : Observation) → held_at self.now.exposures a ≡ Some d → held_at self.now.exposures b ≡ Some e → result ≡ is_lt (canonical_cmp d e) }
+    {
+        match (self.register.get(a), self.register.get(b)) {
+            (Some(first), Some(second)) => compare(first, second).is_lt(),
+            _ => false,
+        }
+    }
+}
+
+/// The first place whose id is held or equals that of an earlier place.
+fn first_taken(register: &Register, detections: &[Detection]) -> Option<u32>
+    requires few { length detections.now < 2 ^ 32 }
+    requires order { IdsDontFall detections.now }
+    ensures none { result ≡ None → NoneTaken (slot register.now) detections.now (length detections.now) }
+    ensures some { (i : ℕ) → result ≡ Some i → IsFirstTaken (slot register.now) detections.now i }
+{
+    for (place, detection) in detections.iter().enumerate() {
+        if register.find(detection.id.bytes()).is_some() {
+            return Some(place as u32);
+        }
+        if place > 0 {
+            let earlier = &detections[place - 1];
+            if earlier.id == detection.id {
+                return Some(place as u32);
+            }
+        }
+    }
+    None
+}
+
+/// How many of the groups are of a night.
+fn count_of_night(groups: &[Group], shift: i64, night: i64) -> usize
+    requires epochs { All (λ g. IsEpoch g.epoch) groups.now }
+    requires shift { IsNightShift shift }
+    ensures { result ≡ count_by (λ g. int_eq (night_at shift g.epoch) night) groups.now }
+{
+    let mut count = 0;
+    for group in groups {
+        if night_of(group.epoch, shift) == night {
+            count += 1;
+        }
+    }
+    count
+}
+
+/// Whether the night of an epoch under a shift lies before a night.
+fn lies_before(epoch: i64, shift: i64, night: i64) -> bool
+    ensures { result ≡ lt_z (night_at shift epoch) night }
+{
+    (i128::from(epoch) + i128::from(shift)).div_euclid(TICKS_PER_DAY) < i128::from(night)
+}
+
+/// Lets go of the detections of all groups whose night lies before a night. This takes no memory.
+fn forget_before(register: &mut Register, groups: &[Group], shift: i64, night: i64)
+    requires { AreGroups register.old groups.now }
+    ensures at { (n : ℕ) → slot register.new n ≡ cond (gone (keeps_night shift night) groups.now n) None (slot register.old n) }
+    ensures count { count_held register.new + sum_by (λ g. length g.numbers.items) (filter (λ g. not (stays (keeps_night shift night) g)) groups.now) ≡ count_held register.old }
+{
+    for group in groups {
+        if lies_before(group.epoch, shift, night) {
+            let_go_all(register, group.numbers.as_slice());
+        }
+    }
+}
+
+/// Where a detection stands, with its number as the label.
+fn labelled(number: u32, detection: &Detection) -> Spot
+    ensures { result ≡ spot_of (number, detection.now) }
+{
+    Spot {
+        num: number,
+        epoch: detection.epoch,
+        ra: detection.ra,
+        dec: detection.dec,
+    }
+}
+
+/// Adds the spots of the detections of these numbers.
+fn push_spots(spots: &mut Vec<Spot>, register: &Register, numbers: &[u32]) -> Result<(), NoMemory>
+    ensures { OnOk result (spots.new.items ≡ spots.old.items ++ map spot_of (entries_of register.now numbers.now)) }
+{
+    for number in numbers {
+        if let Some(detection) = register.get(*number) {
+            spots.push(labelled(*number, detection))?;
+        }
+    }
+    Ok(())
+}
