@@ -1,0 +1,6 @@
+pub mod Words
+pub mod Names
+pub mod ReportText
+pub mod Texts
+pub mod Refusals
+pub mod Examples
