@@ -16,7 +16,7 @@ use Rattle.plain_tracks.proofs.Entries.{in_front, in_rest, front_or_rest}
 use Rattle.plain_tracks.proofs.Steps.{in_none, mapped}
 
 -- one list of numbers is below another
-abbrev IsBelow : List ℕ → List ℕ → Type 0
+abbrev pub IsBelow : List ℕ → List ℕ → Type 0
 IsBelow one other = slice_cmp nat_cmp one other ≡ Less
 
 -- not both below one another
@@ -28,7 +28,7 @@ not_both one other p q =
     cc
 
 -- the first of a rising list is below the others
-first_below : (set : List (List SpotData)) (sets : List (List (List SpotData))) (other : List (List SpotData)) → IsStrictlySortedBy (slice_cmp nat_cmp) (map numbers_of (set ∷ sets)) → Contains sets other → IsBelow (numbers_of set) (numbers_of other)
+pub first_below : (set : List (List SpotData)) (sets : List (List (List SpotData))) (other : List (List SpotData)) → IsStrictlySortedBy (slice_cmp nat_cmp) (map numbers_of (set ∷ sets)) → Contains sets other → IsBelow (numbers_of set) (numbers_of other)
 first_below set sets other o c =
     let all : All (λ n. slice_cmp nat_cmp (numbers_of set) n ≡ Less) (map numbers_of sets) =
     All-from_recursion (λ n. slice_cmp nat_cmp (numbers_of set) n ≡ Less) (map numbers_of sets) (sorted_head (slice_cmp nat_cmp) (numbers_of set) (map numbers_of sets) o) in

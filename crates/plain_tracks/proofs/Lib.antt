@@ -2,5 +2,9 @@ pub mod Agreement
 pub mod Choices
 pub mod Crowded
 pub mod Entries
+pub mod Existence
+pub mod Members
+pub mod PairNights
+pub mod Placing
 pub mod Steps
 pub mod Tracks

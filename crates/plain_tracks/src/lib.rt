@@ -2,10 +2,12 @@
 //! far as it fits.
 #![tactic(auto)]
 
-pub use laws::one_report_list;
+pub use laws::{one_report_list, some_report_list};
 pub use listing::report_list;
 
 mod growing;
 mod laws;
 mod listing;
 mod maximal;
+#[cfg(test)]
+mod tests;

@@ -1,4 +1,5 @@
 pub mod Admitted
+pub mod Decided
 pub mod EachThree
 pub mod Ends
 pub mod MarkLists

@@ -1,10 +1,10 @@
 -- What holds of every quadratic test, for the crates that stand on it.
-use Rattle.std.specs.Prelude.{ℤ, pos, ◌≤ℤ◌, ◌<ℤ◌, List, [], ◌∷◌}
+use Rattle.std.specs.Prelude.{ℤ, pos, ◌≤ℤ◌, ◌<ℤ◌, ◌⊎◌, List, [], ◌∷◌}
 use Rattle.std.specs.List.{All, Contains}
 use Rattle.sky_math.specs.Lists.{EachThree}
 use Rattle.sky_units.specs.Arcs.{IsArc}
 use Rattle.sky_units.specs.Coefficients.{HasCoefficient}
-use Rattle.sky_units.specs.Motion.{AxisAdmits}
+use Rattle.sky_units.specs.Motion.{AxisAdmits, Fits}
 use Rattle.sky_units.specs.SettingsData.{SettingsData}
 use Rattle.sky_units.specs.SpotData.{SpotData}
 use Rattle.sky_units.specs.declared.axis.Axis.{Axis}
@@ -16,3 +16,7 @@ PartsAreAdmitted = (axis : Axis) (settings : SettingsData) (spots part : List Sp
 -- at one leading coefficient each three spots of an arc suffice
 abbrev pub ThreeSuffice : Type 0
 ThreeSuffice = (axis : Axis) (tol a b : ℤ) (spots : List SpotData) → IsArc spots → pos 0 ≤ℤ tol → pos 0 <ℤ b → EachThree (λ x y z. HasCoefficient axis tol (x ∷ y ∷ z ∷ []) a b) spots → HasCoefficient axis tol spots a b
+
+-- each arc fits or doesn't: whole numbers alone decide it
+abbrev pub FitIsDecided : Type 0
+FitIsDecided = (settings : SettingsData) (spots : List SpotData) → IsArc spots → Fits settings spots ⊎ (¬ Fits settings spots)

@@ -1,4 +1,4 @@
-ghost use Rattle.quad_fit.specs.Laws.{PartsAreAdmitted, ThreeSuffice};
+ghost use Rattle.quad_fit.specs.Laws.{FitIsDecided, PartsAreAdmitted, ThreeSuffice};
 
 /// A law: what an axis admits of an arc, it admits of each part of it.
 pub fn parts_are_admitted()
@@ -9,4 +9,10 @@ pub fn parts_are_admitted()
 /// arc where one is within it of each three of them.
 pub fn three_suffice()
     ensures { ThreeSuffice }
+{}
+
+/// A law: each arc fits or doesn't, whatever the settings. Its proof finds out which from whole
+/// numbers, so a proof elsewhere can go by cases on it.
+pub fn fit_is_decided()
+    ensures { FitIsDecided }
 {}

@@ -7,7 +7,7 @@
 #![tactic(auto)]
 
 pub use fitting::{fits, fits_joined};
-pub use laws::{parts_are_admitted, three_suffice};
+pub use laws::{fit_is_decided, parts_are_admitted, three_suffice};
 pub use range::acc_range;
 
 mod fitting;

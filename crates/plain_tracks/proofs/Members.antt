@@ -1,0 +1,100 @@
+-- Lists of exactly the things of a property, and properties that hold or don't of each thing.
+use Rattle.std.proofs.Common.{◌≡◌, ℕ, List, [], ◌∷◌, map, sym, subst, ◌↔◌, arith}
+use Rattle.std.proofs.lemmas.Bool.{cases_eq}
+use Rattle.std.proofs.lemmas.List.Elements.{All-nil, All-cons, All-head, All-tail}
+use Rattle.std.specs.List.{All, Contains}
+use Prim.Native.Nat.{zero, suc}
+use mathlib.Core.Logic.{◌⊎◌, inl, inr}
+use Rattle.sky_math.specs.Lists.{EachTwo}
+use Rattle.plain_tracks.proofs.Choices.{each_two_head, each_two_tail}
+use Rattle.plain_tracks.proofs.Entries.{in_front, in_rest, front_or_rest}
+use Rattle.plain_tracks.proofs.Steps.{in_none, mapped}
+
+-- it holds or doesn't
+abbrev pub IsDecided : Type 0 → Type 0
+IsDecided P = P ⊎ (¬ P)
+
+pub reworded : {P Q : Type 0} → (P → Q) → (Q → P) → IsDecided P → IsDecided Q
+reworded there back (inl p) = inl (there p)
+reworded there back (inr n) = inr (λ q. n (back q))
+
+pub both : {P Q : Type 0} → IsDecided P → IsDecided Q → IsDecided (P × Q)
+both (inl p) (inl q) = inl (p, q)
+both (inl p) (inr n) = inr (λ w. n w.1)
+both (inr n) d = inr (λ w. n w.0)
+
+pub implied : {P Q : Type 0} → IsDecided P → IsDecided Q → IsDecided (P → Q)
+implied (inl p) (inl q) = inl (λ p'. q)
+implied (inl p) (inr n) = inr (λ h. n (h p))
+implied (inr n) d = inl (λ p. absurd (n p))
+
+-- ---- of each thing of a list
+pub all_or_not : {X : Type 0} → (P : X → Type 0) → ((x : X) → IsDecided (P x)) → (xs : List X) → IsDecided (All P xs)
+all_or_not P d [] = inl (All-nil P)
+all_or_not P d (x ∷ xs) = reworded (λ h. All-cons P x xs h.0 h.1) (λ h. (All-head P x xs h, All-tail P x xs h)) (both (d x) (all_or_not P d xs))
+
+pub each_two_cons : {X : Type 0} → (R : X → X → Type 0) (x : X) (xs : List X) → All (R x) xs → EachTwo R xs → EachTwo R (x ∷ xs)
+each_two_cons R x xs h t i zero d ij jl = absurd (omega arith)
+each_two_cons R x xs h t zero (suc j) d ij jl = h j d (omega arith)
+each_two_cons R x xs h t (suc i) (suc j) d ij jl = t i j d (omega arith) (omega arith)
+
+pub each_two_or_not : {X : Type 0} → (R : X → X → Type 0) → ((x y : X) → IsDecided (R x y)) → (xs : List X) → IsDecided (EachTwo R xs)
+each_two_or_not R d [] = inl (λ i j e ij jl. absurd (omega arith))
+each_two_or_not R d (x ∷ xs) = reworded (λ h. each_two_cons R x xs h.0 h.1) (λ h. (each_two_head R x xs h, each_two_tail R x xs h)) (both (all_or_not (R x) (d x) xs) (each_two_or_not R d xs))
+
+pub contains_or_not : (ns : List ℕ) (n : ℕ) → IsDecided (Contains ns n)
+contains_or_not [] n = inr (in_none n)
+contains_or_not (m ∷ ns) n = elim (cases_eq m n) [
+  | inl e ↦ inl (subst (Contains (m ∷ ns)) e (in_front m ns))
+  | inr differ ↦ elim (contains_or_not ns n) [
+    | inl c ↦ inl (in_rest m ns n c)
+    | inr never ↦ inr (λ c. elim (front_or_rest m ns n c) [ inl e ↦ differ e | inr d ↦ never d ])
+  ]
+]
+
+-- ---- exactly the things of a property
+pub record Members {X : Type 0} (P : X → Type 0) : Type 0 where
+  pub list : List X
+  pub exactly : (x : X) → Contains list x ↔ P x
+
+-- those of a list of which Q holds
+pub kept : {X : Type 0} → (Q : X → Type 0) (xs : List X) → ((x : X) → Contains xs x → IsDecided (Q x)) → Members (λ x. Contains xs x × Q x)
+kept Q [] d = record { list = []; exactly = λ x. (λ c. absurd (in_none x c), λ w. w.0) }
+kept Q (x ∷ xs) d =
+    let rest = kept Q xs (λ y c. d y (in_rest x xs y c)) in
+    elim (d x (in_front x xs)) [
+      | inl q ↦ record {
+        list = x ∷ rest.list;
+        exactly = λ y. (
+          λ c. elim (front_or_rest x rest.list y c) [
+            | inl e ↦ (subst (Contains (x ∷ xs)) e (in_front x xs), subst Q e q)
+            | inr k ↦ (let w = (rest.exactly y).0 k in (in_rest x xs y w.0, w.1))
+          ],
+          λ w. elim (front_or_rest x xs y w.0) [
+            | inl e ↦ subst (Contains (x ∷ rest.list)) e (in_front x rest.list)
+            | inr k ↦ in_rest x rest.list y ((rest.exactly y).1 (k, w.1))
+          ],
+        );
+      }
+      | inr never ↦ record {
+        list = rest.list;
+        exactly = λ y. (
+          λ c. (let w = (rest.exactly y).0 c in (in_rest x xs y w.0, w.1)),
+          λ w. elim (front_or_rest x xs y w.0) [
+            | inl e ↦ absurd (never (subst Q (sym e) w.1))
+            | inr k ↦ (rest.exactly y).1 (k, w.1)
+          ],
+        );
+      }
+    ]
+
+-- ---- members of a map
+pub in_mapped : {X Y : Type 0} → (f : X → Y) (xs : List X) (x : X) → Contains xs x → Contains (map f xs) (f x)
+in_mapped f xs x c = let at = mapped f xs c.0 x c.1 (sym c.2) in (c.0, at.0, sym at.1)
+
+pub of_mapped : {X Y : Type 0} → (f : X → Y) (xs : List X) (y : Y) → Contains (map f xs) y → (x : X) × Contains xs x × (f x ≡ y)
+of_mapped f [] y c = absurd (in_none y c)
+of_mapped f (x ∷ xs) y c = elim (front_or_rest (f x) (map f xs) y c) [
+  | inl e ↦ (x, in_front x xs, e)
+  | inr d ↦ (let w = of_mapped f xs y d in (w.0, in_rest x xs w.0 w.1, w.2))
+]
