@@ -48,7 +48,7 @@ all_by_value (c ∷ ds) all = rw (digit_by_value c all.0, all_by_value ds all.1)
 pub decimal_all : (n : ℕ) → n < 2 ^ 64 → (0 < length (decimal n)) × (list_all is_ascii_digit (decimal n) ≡ true) × (digits_value 10 (decimal n) ≡ n)
 decimal_all n small = let numeral = decimal_is_IsNumeral n small in (numeral.0.0, all_by_value (decimal n) numeral.0.1, numeral.1)
 
-no_dot : (c : ℕ) → is_ascii_digit c ≡ true → is_dot c ≡ false
+pub no_dot : (c : ℕ) → is_ascii_digit c ≡ true → is_dot c ≡ false
 no_dot c digit = grind (arith, nat_tests)
 
 dot_place : (whole fraction : List ℕ) → list_all is_ascii_digit whole ≡ true → position_or_len is_dot (whole ++ 46 ∷ fraction) ≡ length whole

@@ -9,3 +9,4 @@ pub mod Digits
 pub mod Numbers
 pub mod Joined
 pub mod RoundTrip
+pub mod ShortDecimals

@@ -5,6 +5,8 @@ use Rattle.std.proofs.lemmas.Bool.Decides.{nat_tests}
 use Rattle.miti_text.specs.Words.{is_blank, is_filled, words}
 use Rattle.miti_text.specs.Observation.{is_visible, is_shown}
 use Rattle.miti_text.specs.Lines.{is_text}
+use Rattle.miti_text.specs.Parts.{AreFirst}
+use Rattle.miti_text.specs.declared.reading.Seven.{Seven}
 use Rattle.miti_text.proofs.DigitTexts.{both_true}
 
 visible : (b : ℕ) → is_text b ≡ true → is_blank b ≡ false → is_visible b ≡ true
@@ -44,14 +46,16 @@ first_shown word rest all = (both_true (is_shown word) (list_all is_shown rest) 
 pub rest_shown : (word : List ℕ) (rest : List (List ℕ)) → list_all is_shown (word ∷ rest) ≡ true → list_all is_shown rest ≡ true
 rest_shown word rest all = (both_true (is_shown word) (list_all is_shown rest) all).1
 
--- of seven words, the three that are kept
-pub seven_shown : (line a b c d e f g : List ℕ) (more : List (List ℕ)) → list_all is_text line ≡ true → words line ≡ a ∷ b ∷ c ∷ d ∷ e ∷ f ∷ g ∷ more
-    → (is_shown a ≡ true) × (is_shown f ≡ true) × (is_shown g ≡ true)
-seven_shown line a b c d e f g more text is =
-    let all : list_all is_shown (a ∷ b ∷ c ∷ d ∷ e ∷ f ∷ g ∷ more) ≡ true = ap (list_all is_shown) (sym is) ∙ words_shown line text in
-    let last = rest_shown e (f ∷ g ∷ more) (rest_shown d (e ∷ f ∷ g ∷ more) (rest_shown c (d ∷ e ∷ f ∷ g ∷ more)
-    (rest_shown b (c ∷ d ∷ e ∷ f ∷ g ∷ more) (rest_shown a (b ∷ c ∷ d ∷ e ∷ f ∷ g ∷ more) all)))) in (
-      first_shown a (b ∷ c ∷ d ∷ e ∷ f ∷ g ∷ more) all,
-      first_shown f (g ∷ more) last,
-      first_shown g more (rest_shown f (g ∷ more) last),
+-- of a line's first seven words, the three that are kept
+pub seven_shown : (line : List ℕ) (s : Seven) → list_all is_text line ≡ true → AreFirst s (words line)
+    → (is_shown s.id.now ≡ true) × (is_shown s.site.now ≡ true) × (is_shown s.name.now ≡ true)
+seven_shown line s text first =
+    let end : List (List ℕ) = s.site.now ∷ s.name.now ∷ first.more in
+    let numbers : List (List ℕ) = first.epoch ∷ first.ra ∷ first.dec ∷ first.mag ∷ end in
+    let all : list_all is_shown (s.id.now ∷ numbers) ≡ true = ap (list_all is_shown) (sym first.words_are) ∙ words_shown line text in
+    let last : list_all is_shown end ≡ true = rest_shown first.mag end (rest_shown first.dec (first.mag ∷ end) (rest_shown first.ra (first.dec ∷ first.mag ∷ end)
+    (rest_shown first.epoch (first.ra ∷ first.dec ∷ first.mag ∷ end) (rest_shown s.id.now numbers all)))) in (
+      first_shown s.id.now numbers all,
+      first_shown s.site.now (s.name.now ∷ first.more) last,
+      first_shown s.name.now first.more (rest_shown s.site.now (s.name.now ∷ first.more) last),
     )

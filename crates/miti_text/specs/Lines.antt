@@ -1,5 +1,5 @@
 -- Which lines are detection lines, and what they say.
-use Rattle.std.specs.Prelude.{◌≡◌, ℕ, Bool, ◌&&◌, ◌||◌, ◌==◌, nat_le, List, ◌∷◌, length, Option, Some, None, Result, Ok, Err, if◌then◌else◌}
+use Rattle.std.specs.Prelude.{◌≡◌, ℕ, Bool, ◌&&◌, ◌||◌, ◌==◌, nat_le, List, ◌∷◌, length, Option, Some, None, Result, Ok, Err, ℤ, if◌then◌else◌}
 use Rattle.std.specs.List.{list_all}
 use Rattle.miti_text.specs.Words.{words}
 use Rattle.miti_text.specs.Quantities.{quantity_of}
@@ -25,21 +25,23 @@ abbrev pub or_error : {A : Type 0} → LineError → Option A → Result A LineE
 or_error error (Some x) = Ok x
 or_error error None = Err error
 
--- what seven words say, by the first rule that is broken
-unfoldable pub fields_of : List ℕ → List ℕ → List ℕ → List ℕ → List ℕ → List ℕ → List ℕ → Result Observation LineError
+-- what seven fields say, the numbers among them read, by the first rule that is broken
+unfoldable pub fields_of : List ℕ → Option ℤ → Option ℤ → Option ℤ → Option ℤ → List ℕ → List ℕ → Result Observation LineError
 fields_of id epoch ra dec mag site name = do
   id_holds ← check (is_id id) Id
-  at ← or_error Epoch (quantity_of quantities.Epoch epoch)
-  right ← or_error Ra (quantity_of quantities.RightAscension ra)
-  up ← or_error Dec (quantity_of quantities.Declination dec)
-  faint ← or_error Mag (quantity_of quantities.Magnitude mag)
+  at ← or_error Epoch epoch
+  right ← or_error Ra ra
+  up ← or_error Dec dec
+  faint ← or_error Mag mag
   site_holds ← check (is_site site) Site
   name_holds ← check (is_name name) Name
   Ok (record { id = id; epoch = at; ra = right; dec = up; mag = faint; site = site; name = name })
 
 -- the first seven words are the fields; further ones are not read
 abbrev pub observation_of : List (List ℕ) → Result Observation LineError
-observation_of (id ∷ epoch ∷ ra ∷ dec ∷ mag ∷ site ∷ name ∷ more) = fields_of id epoch ra dec mag site name
+observation_of (id ∷ epoch ∷ ra ∷ dec ∷ mag ∷ site ∷ name ∷ more) =
+    fields_of id (quantity_of quantities.Epoch epoch) (quantity_of quantities.RightAscension ra)
+    (quantity_of quantities.Declination dec) (quantity_of quantities.Magnitude mag) site name
 observation_of _ = Err Fields
 
 -- what a line says, or the first rule that it breaks

@@ -13,3 +13,8 @@ is_filled (byte ∷ bytes) = true
 -- the parts between blanks, without the empty ones
 unfoldable pub words : List ℕ → List (List ℕ)
 words text = filter is_filled (slice_split is_blank text)
+
+-- a word that these bytes follow is over: nothing follows, or a blank
+abbrev pub ends_word : List ℕ → Bool
+ends_word [] = true
+ends_word (byte ∷ bytes) = is_blank byte

@@ -17,6 +17,7 @@ mod numerals;
 mod pieces;
 mod quantities;
 mod reading;
+mod short_decimals;
 #[cfg(test)]
 mod tests;
 mod writing;

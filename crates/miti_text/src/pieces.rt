@@ -1,18 +1,27 @@
-ghost use Rattle.std.specs.Prelude.{◌≡◌, ◌∷◌, ◌≤◌, [], length, not, MatchOption};
+ghost use Rattle.std.specs.Prelude.{◌≡◌, ◌∷◌, ◌≤◌, [], length, drop, not, MatchOption};
 ghost use Rattle.std.specs.List.{prefix_len, position_or_len};
-ghost use Rattle.miti_text.specs.Words.{is_blank, words};
+ghost use Rattle.miti_text.specs.Words.{is_blank, words, ends_word};
 
 /// The first word of a text and what follows it; None where the text has no word. A word is what
 /// stands between spaces and tabs.
 pub fn next_word(text: &[u8]) -> Option<(&[u8], &[u8])>
     ensures { MatchOption result (words text.now ≡ []) (λ found. words text.now ≡ found.0.now ∷ words found.1.now) }
 {
-    let (_, text) = text.split_at(blanks_in_front(text));
+    let text = without_blanks(text);
     let end = word_len(text);
     if end == 0 {
         return None;
     }
     Some(text.split_at(end))
+}
+
+/// A text without the blanks that it begins with.
+pub fn without_blanks(text: &[u8]) -> &[u8]
+    ensures same { result.now ≡ drop (prefix_len is_blank text.now) text.now }
+    ensures words { words result.now ≡ words text.now }
+{
+    let (_, text) = text.split_at(blanks_in_front(text));
+    text
 }
 
 /// How many blanks a text begins with.
@@ -36,4 +45,14 @@ fn is_blank(byte: u8) -> bool
     ensures { result ≡ is_blank byte }
 {
     byte == b' ' || byte == b'\t'
+}
+
+/// Whether a word that ends where this text begins is over there: nothing or a blank follows.
+pub fn ends_word(text: &[u8]) -> bool
+    ensures { result ≡ ends_word text.now }
+{
+    match text {
+        [] => true,
+        [byte, ..] => is_blank(*byte),
+    }
 }

@@ -7,9 +7,6 @@ ghost use Rattle.miti_text.specs.Quantities.{places, limit, kept, quantity_of, I
 
 use crate::numerals::{read_digits, signed, split_dot, split_sign};
 
-// The readers are inlined, so that each of a line's four calls has its quantity's limits and
-// places as constants.
-
 /// A number of a detection line, with its unit and its range.
 #[derive(Clone, Copy, Debug)]
 pub enum Quantity {
@@ -26,12 +23,26 @@ pub enum Quantity {
 /// A whole turn of right ascension, in 10^-6 degree.
 const FULL_TURN: i64 = 360_000_000;
 
-/// The powers of ten up to the greatest number of places.
-const POWERS: [u64; 7] = [1, 10, 100, 1_000, 10_000, 100_000, 1_000_000];
+/// The powers of ten up to the greatest that is wanted.
+const POWERS: [u64; 13] = [
+    1,
+    10,
+    100,
+    1_000,
+    10_000,
+    100_000,
+    1_000_000,
+    10_000_000,
+    100_000_000,
+    1_000_000_000,
+    10_000_000_000,
+    100_000_000_000,
+    1_000_000_000_000,
+];
 
 impl Quantity {
     /// How many decimal places are kept.
-    fn places(self) -> usize
+    pub fn places(self) -> usize
         ensures value { result ≡ places self }
         ensures range { result ≤ 6 }
     {
@@ -42,7 +53,7 @@ impl Quantity {
     }
 
     /// How far from zero a written value may lie, on its side of zero.
-    fn limit(self, negative: bool) -> u64
+    pub fn limit(self, negative: bool) -> u64
         ensures value { result ≡ limit self negative }
         ensures range { result ≤ 200000 }
     {
@@ -57,7 +68,7 @@ impl Quantity {
     }
 
     /// The number as it is kept: a whole turn of right ascension is 0.
-    fn keep(self, units: i64) -> i64
+    pub fn keep(self, units: i64) -> i64
         ensures { result ≡ kept self units }
     {
         match self {
@@ -69,7 +80,6 @@ impl Quantity {
 
 /// The quantity that a word writes: a decimal in its range, rounded to the nearest unit, a tie
 /// away from zero; None for any other word.
-#[inline(always)]
 pub fn read_quantity(quantity: Quantity, text: &[u8]) -> Option<i64>
     ensures value { result ≡ quantity_of quantity text.now }
     ensures range { IfSome result (IsKept quantity) }
@@ -82,7 +92,6 @@ pub fn read_quantity(quantity: Quantity, text: &[u8]) -> Option<i64>
 
 /// The units of the last of some places that a whole part and a fraction give, where their value
 /// is at most `limit`.
-#[inline(always)]
 fn read_units(whole: &[u8], fraction: &[u8], limit: u64, places: usize) -> Option<u64>
     requires places { places ≤ 6 }
     requires limit { limit ≤ 200000 }
@@ -128,7 +137,6 @@ fn are_zeros(digits: &[u8]) -> bool
 
 /// The digits of a fraction in units of the last of some places, rounded to the nearest, a tie
 /// upward; None where some byte is no digit.
-#[inline(always)]
 fn read_fraction(fraction: &[u8], places: usize) -> Option<u64>
     requires { places ≤ 6 }
     ensures value { result ≡ (if list_all is_ascii_digit fraction.now then Some (nearest (digits_value 10 fraction.now * 10 ^ places) (denominator fraction.now)) else None) }
@@ -161,9 +169,9 @@ fn rounding(digits: &[u8]) -> u64
     }
 }
 
-/// A power of ten, up to the greatest number of places.
+/// A power of ten, up to the greatest that is wanted.
 pub fn power_of_ten(places: usize) -> u64
-    requires { places ≤ 6 }
+    requires { places ≤ 12 }
     ensures value { result ≡ 10 ^ places }
     ensures positive { 0 < result }
 {

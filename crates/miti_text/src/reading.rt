@@ -1,18 +1,21 @@
-ghost use Rattle.std.specs.Prelude.{◌≡◌, ◌<◌, ℕ, List, length, true, MatchOption, IfOk};
+ghost use Rattle.std.specs.Prelude.{◌≡◌, ◌<◌, length, true, MatchOption, IfSome, IfOk};
 ghost use Rattle.std.specs.List.{list_all};
 ghost use Rattle.miti_text.specs.Words.{words};
 ghost use Rattle.miti_text.specs.Observation.{IsDetection, is_shown, is_id, begins_other_line};
-ghost use Rattle.miti_text.specs.Quantities.{quantity_of, IsKept};
 ghost use Rattle.miti_text.specs.Lines.{detection_of, fields_of, is_text, or_error, IsAnswer, Gives};
-ghost use Rattle.miti_text.specs.Parts.{seen, and_more};
+ghost use Rattle.miti_text.specs.Parts.{seen, AreFirst, HaveRanges};
 
-use crate::quantities::{Quantity, read_quantity};
+use crate::quantities::Quantity;
+use crate::short_decimals::next_quantity;
 use crate::{Detection, LineError, next_word};
 use sky_units::Word;
 use std::alloc::Global;
 
 /// The most bytes of a line.
 const MOST_BYTES: usize = 1_024;
+
+/// How many bytes of a line are tested at once.
+const BLOCK: usize = 32;
 
 /// The most bytes of an id.
 const MOST_ID: usize = 64;
@@ -35,14 +38,14 @@ struct Parsed<'a> {
     name: &'a [u8],
 }
 
-/// The first seven words of a line.
+/// The first seven words of a line; a number is None where its word writes none in its range.
 #[derive(Clone, Copy)]
 struct Seven<'a> {
     id: &'a [u8],
-    epoch: &'a [u8],
-    ra: &'a [u8],
-    dec: &'a [u8],
-    mag: &'a [u8],
+    epoch: Option<i64>,
+    ra: Option<i64>,
+    dec: Option<i64>,
+    mag: Option<i64>,
     site: &'a [u8],
     name: &'a [u8],
 }
@@ -85,9 +88,23 @@ fn parse(line: &[u8]) -> Result<Parsed<'_>, LineError>
 pub fn is_text(line: &[u8]) -> bool
     ensures { result ≡ list_all is_text line.now }
 {
+    if line.len() < BLOCK {
+        return are_text_bytes(line);
+    }
+    // Whole blocks, and the last block's length once more, so that no byte is tested alone.
+    let (blocks, _) = line.split_at(line.len() / BLOCK * BLOCK);
+    let (_, last) = line.split_at(line.len() - BLOCK);
+    are_text_bytes(blocks) && are_text_bytes(last)
+}
+
+/// Whether each byte is a tab, or from a space to a tilde.
+#[inline(always)]
+fn are_text_bytes(bytes: &[u8]) -> bool
+    ensures { result ≡ list_all is_text bytes.now }
+{
     // Without an early end the bytes are tested many at a time.
     let mut all = true;
-    for byte in line {
+    for byte in bytes {
         all &= is_text_byte(*byte);
     }
     all
@@ -102,13 +119,14 @@ fn is_text_byte(byte: u8) -> bool
 
 /// The first seven words of a text; None where it has fewer.
 fn seven_words(text: &[u8]) -> Option<Seven<'_>>
-    ensures { MatchOption result (length (words text.now) < 7) (λ seven. (more : List (List ℕ)) × (words text.now ≡ and_more seven more)) }
+    ensures value { MatchOption result (length (words text.now) < 7) (λ seven. AreFirst seven (words text.now)) }
+    ensures range { IfSome result HaveRanges }
 {
     let (id, text) = next_word(text)?;
-    let (epoch, text) = next_word(text)?;
-    let (ra, text) = next_word(text)?;
-    let (dec, text) = next_word(text)?;
-    let (mag, text) = next_word(text)?;
+    let (epoch, text) = next_quantity(Quantity::Epoch, text)?;
+    let (ra, text) = next_quantity(Quantity::RightAscension, text)?;
+    let (dec, text) = next_quantity(Quantity::Declination, text)?;
+    let (mag, text) = next_quantity(Quantity::Magnitude, text)?;
     let (site, text) = next_word(text)?;
     let (name, _) = next_word(text)?;
     Some(Seven {
@@ -128,16 +146,17 @@ fn parse_words<'a>(words: &Seven<'a>) -> Result<Parsed<'a>, LineError>
     requires id { is_shown words.now.id.now ≡ true }
     requires site { is_shown words.now.site.now ≡ true }
     requires name { is_shown words.now.name.now ≡ true }
-    ensures value { Gives seen (fields_of words.now.id.now words.now.epoch.now words.now.ra.now words.now.dec.now words.now.mag.now words.now.site.now words.now.name.now) result }
+    requires ranges { HaveRanges words.now }
+    ensures value { Gives seen (fields_of words.now.id.now words.now.epoch words.now.ra words.now.dec words.now.mag words.now.site.now words.now.name.now) result }
     ensures range { IfOk result (λ parsed. IsDetection (seen parsed)) }
 {
     if !is_id(words.id) {
         return Err(LineError::Id);
     }
-    let epoch = quantity_or(Quantity::Epoch, words.epoch, LineError::Epoch)?;
-    let ra = quantity_or(Quantity::RightAscension, words.ra, LineError::Ra)?;
-    let dec = quantity_or(Quantity::Declination, words.dec, LineError::Dec)?;
-    let mag = quantity_or(Quantity::Magnitude, words.mag, LineError::Mag)?;
+    let epoch = number_or(words.epoch, LineError::Epoch)?;
+    let ra = number_or(words.ra, LineError::Ra)?;
+    let dec = number_or(words.dec, LineError::Dec)?;
+    let mag = number_or(words.mag, LineError::Mag)?;
     if words.site.len() > MOST_SITE {
         return Err(LineError::Site);
     }
@@ -155,13 +174,11 @@ fn parse_words<'a>(words: &Seven<'a>) -> Result<Parsed<'a>, LineError>
     })
 }
 
-/// The quantity that a word writes, or this error.
-#[inline(always)]
-fn quantity_or(quantity: Quantity, word: &[u8], error: LineError) -> Result<i64, LineError>
-    ensures value { result ≡ or_error error (quantity_of quantity word.now) }
-    ensures range { IfOk result (IsKept quantity) }
+/// The number that was read, or this error.
+fn number_or(number: Option<i64>, error: LineError) -> Result<i64, LineError>
+    ensures { result ≡ or_error error number }
 {
-    match read_quantity(quantity, word) {
+    match number {
         Some(units) => Ok(units),
         None => Err(error),
     }

@@ -26,3 +26,21 @@ fn words_and_numbers(rt: HostRuntime) {
     assert!(rt; matches!(next_word(b" \ta b"), Some((b"a", b" b"))));
     assert!(rt; next_word(b" \t").is_none());
 }
+
+#[test]
+fn short_and_long_numbers(rt: HostRuntime) -> Result<(), LineError> {
+    let short = read_line(rt.alloc(), b"a 59001.25 10 5 20 568 o")?;
+    let long = b"a 0059001.25 10.0000000000000 +05. 0020.0004 568 o";
+    let long = read_line(rt.alloc(), long)?;
+    assert_eq!(rt; short.epoch, 59_001_250_000);
+    assert_eq!(rt; long.epoch, 59_001_250_000);
+    assert_eq!(rt;
+        (short.ra, short.dec, short.mag),
+        (10_000_000, 5_000_000, 20_000)
+    );
+    assert_eq!(rt;
+        (long.ra, long.dec, long.mag),
+        (10_000_000, 5_000_000, 20_000)
+    );
+    Ok(())
+}

@@ -114,3 +114,64 @@ lowest_alone n d a b g p ea eb h =
 
 pub cast_small : (g : ℕ) → g ≤ 10 ^ 22 → to_z w128 g ≡ pos g
 cast_small g h = omega (arith, ints)
+
+-- a whole number, kept in 128 bits and read back
+abbrev pub held : ℤ → ℤ
+held n = to_z w128 (of_z w128 n)
+
+-- the greatest common divisor of a fraction's numbers, as it is computed
+pub record DivisorFacts (n d : ℤ) (g : ℕ) : Type 0 where
+  pub num_is : held n ≡ n
+  pub den_is : held d ≡ d
+  pub gcd : IsGcd (unsigned_abs n) (unsigned_abs d) g
+  pub some : 0 < g
+  pub fits : FitsSigned w128 (pos g)
+  pub is : to_z w128 g ≡ pos g
+  pub positive : pos 0 <ℤ to_z w128 g
+  pub divides_num : unsigned_abs (to_z w128 g) ∣ unsigned_abs (held n)
+  pub divides_den : unsigned_abs (to_z w128 g) ∣ unsigned_abs (held d)
+
+pub divisor_facts : (n d : ℤ) (g a b : ℕ) → IsFrac n d → a ≡ unsigned_abs (held n) → b ≡ unsigned_abs (held d) → IsGcd a b g → DivisorFacts n d g
+divisor_facts n d g a b frac a_is b_is h =
+    let num_is : to_z w128 (of_z w128 n) ≡ n = to_z-of_z w128 n (num_fits n d frac) in
+    let den_is : to_z w128 (of_z w128 d) ≡ d = to_z-of_z w128 d (den_fits n d frac) in
+    let num_abs : a ≡ unsigned_abs n = rw num_is at a_is in
+    let den_abs : b ≡ unsigned_abs d = rw den_is at b_is in
+    let gcd : IsGcd (unsigned_abs n) (unsigned_abs d) g = rw (num_abs, den_abs) at h in
+    let fits = divisor_fits n d g frac gcd.1 in
+    let is : to_z w128 g ≡ pos g = cast_small g fits.1 in
+    record {
+      num_is = num_is;
+      den_is = den_is;
+      gcd = gcd;
+      some = fits.0;
+      fits = fits.2;
+      is = is;
+      positive = rw is (omega (arith, ints, fits.0));
+      divides_num = rw (is, num_is) gcd.0;
+      divides_den = rw (is, den_is) gcd.1;
+    }
+
+-- the quotients of a fraction's numbers by their greatest common divisor
+pub record QuotientFacts (n d a b : ℤ) : Type 0 where
+  pub num_is : held a ≡ a
+  pub den_is : held b ≡ b
+  pub range : IsFrac (held a) (held b)
+  pub value : n *ℤ held b ≡ held a *ℤ d
+  pub lowest : IsGcd (unsigned_abs (held a)) (unsigned_abs (held b)) 1
+
+pub quotient_facts : (n d : ℤ) (g : ℕ) (a b : ℤ) → IsFrac n d → DivisorFacts n d g → a *ℤ to_z w128 g ≡ held n → b *ℤ to_z w128 g ≡ held d → QuotientFacts n d a b
+quotient_facts n d g a b frac divisor num_times den_times =
+    let positive : pos 0 <ℤ pos g = rw divisor.is at divisor.positive in
+    let num_exact : a *ℤ pos g ≡ n = rw (divisor.is, divisor.num_is) at num_times in
+    let den_exact : b *ℤ pos g ≡ d = rw (divisor.is, divisor.den_is) at den_times in
+    let range : IsFrac a b = lowest_frac n d a b (pos g) frac positive num_exact den_exact in
+    let num_is : to_z w128 (of_z w128 a) ≡ a = to_z-of_z w128 a (num_fits a b range) in
+    let den_is : to_z w128 (of_z w128 b) ≡ b = to_z-of_z w128 b (den_fits a b range) in
+    record {
+      num_is = num_is;
+      den_is = den_is;
+      range = rw (num_is, den_is) range;
+      value = rw (num_is, den_is) (lowest_value n d a b (pos g) num_exact den_exact);
+      lowest = rw (num_is, den_is) (lowest_alone n d a b g divisor.some num_exact den_exact divisor.gcd);
+    }

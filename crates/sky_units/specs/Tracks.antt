@@ -2,7 +2,7 @@
 --
 -- A tracklet is the list of its spots, and a set of tracklets the list of its tracklets. `nights` has, for each night in order of
 -- time, the list of its tracklets. The number of a spot is its place in canonical order among all held detections.
-use Rattle.std.specs.Prelude.{ℕ, ◌≡◌, ◌≤◌, ◌<◌, ℤ, pos, ◌-ℤ◌, ◌<ℤ◌, ◌⊎◌, ◌↔◌, List, [], ◌∷◌, length, slice_index_or, map}
+use Rattle.std.specs.Prelude.{ℕ, ◌≡◌, ◌≤◌, pos, ◌-ℤ◌, ◌<ℤ◌, ◌⊎◌, ◌↔◌, List, [], ◌∷◌, length, map}
 use Rattle.std.specs.Cmp.Lexicographic.{slice_cmp}
 use Rattle.std.specs.List.{All, Contains}
 use Rattle.std.specs.List.Sorted.{IsStrictlySortedBy}

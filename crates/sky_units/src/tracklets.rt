@@ -6,7 +6,7 @@ use crate::Spot;
 use crate::arcs::rise;
 use std::marker::Model;
 
-/// A tracklet: two or more spots of one night, of strictly rising epochs.
+/// A tracklet: two or more spots of strictly rising epochs.
 #[derive(Debug, Drop)]
 pub struct Tracklet {
     spots: Vec<Spot>,
