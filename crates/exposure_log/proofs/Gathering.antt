@@ -17,13 +17,13 @@ use Rattle.exposure_log.specs.Exposures.{IsExposure, IdsDontFall}
 use Rattle.exposure_log.specs.Gathered.{Precedes, NotAfter, IsOfOnePlace, AreOfOnePlace}
 use Rattle.exposure_log.proofs.Order.{Place, by_place, place_total}
 
-abbrev Ds : Type 0
+abbrev pub Ds : Type 0
 Ds = List Observation
 
-abbrev at : Observation → Place
+abbrev pub at : Observation → Place
 at d = (d.epoch, d.site)
 
-abbrev place : ExposureData → Place
+abbrev pub place : ExposureData → Place
 place x = (x.epoch, x.site)
 
 -- ---- two detections

@@ -16,3 +16,10 @@ pub mod Forgetting
 pub mod Gathering
 pub mod Sorting
 pub mod Spots
+pub mod Fronts
+pub mod LeastNumbers
+pub mod StableSort
+pub mod Cutting
+pub mod Delivering
+pub mod NightStretch
+pub mod FreePlace

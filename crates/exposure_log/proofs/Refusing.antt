@@ -1,6 +1,6 @@
 -- Why an exposure isn't taken, by what the groups and the slots say.
 use Rattle.std.proofs.Common.{◌≡◌, ◌≢◌, ℕ, ◌+◌, ◌<◌, ℤ, Bool, true, false, ◌||◌, Option, Some, None, List, [], ◌∷◌, length, get_or, take, map, refl, sym, ap, ◌∙◌, arith, zero, suc, inl, inr, nat_eq, length-take}
-use Rattle.std.specs.List.{list_any, slice_get, range_with_len, filter, count_by, find}
+use Rattle.std.specs.List.{list_any, slice_get, range_with_len, filter, find}
 use Rattle.std.specs.Option.{option_map_or}
 use Rattle.std.specs.declared.cmp.Ordering.TheVariants.{Equal}
 use Rattle.std.specs.Ordering.{is_eq, int_eq}
@@ -8,7 +8,6 @@ use Rattle.std.specs.Cmp.Lexicographic.{pointwise, bytes_decides}
 use Rattle.std.proofs.lemmas.Bool.{or_from, or_left, or_right, false_from_ne_true}
 use Rattle.std.proofs.lemmas.Option.{get_or_from_slice_get}
 use Rattle.std.proofs.lemmas.List.{get_or-take}
-use Rattle.std.proofs.lemmas.List.Sums.{length-filter}
 use Rattle.sky_math.specs.Night.{night_at}
 use Rattle.miti_text.specs.Observation.{Observation}
 use Rattle.exposure_log.specs.declared.groups.Group.{Group}
@@ -119,23 +118,16 @@ taken_first slots groups a ds i first = zero_first (is_taken (map (exposure_of s
     (from_zero (is_taken (map (exposure_of slots) groups) ds) i true (taken_here slots groups a ds i (slice_get ds i) refl first.within first.taken))
     (λ k l. from_zero (is_taken (map (exposure_of slots) groups) ds) k false (not_taken slots groups ds k (slice_get ds k) refl (first.earlier.fresh k l) (first.earlier.apart k l))))
 
--- ---- the count of a night
+-- ---- the room that is left
 
 length_map : (f : Group → HeldExposure) (gs : List Group) → length (map f gs) ≡ length gs
 length_map f [] = refl
 length_map f (g ∷ gs) = let e = length_map f gs in omega (arith, e)
 
-pub night_count : (slots : Slots) (groups : List Group) (shift night : ℤ) → length (of_night shift night (map (exposure_of slots) groups)) ≡ count_by (λ g. int_eq (night_at shift g.epoch) night) groups
-night_count slots groups shift night =
+-- how many exposures a night has, where its groups were found
+pub counted_night : (slots : Slots) (groups gs here : List Group) (s shift n night : ℤ) → here ≡ filter (λ g. int_eq (night_at s g.epoch) n) gs → s ≡ shift → n ≡ night → gs ≡ groups
+    → length (of_night shift night (map (exposure_of slots) groups)) ≡ length here
+counted_night slots groups gs here s shift n night h a b e =
+    let found : here ≡ filter (λ g. int_eq (night_at shift g.epoch) night) groups = rw (a, b, e) at h in
     ap length (filter_map_is (λ x. int_eq (night_at shift x.epoch) night) (exposure_of slots) groups)
-    ∙ (length_map (exposure_of slots) (filter (λ (g : Group). int_eq (night_at shift g.epoch) night) groups) ∙ length-filter (λ (g : Group). int_eq (night_at shift g.epoch) night) groups)
-
-counted : (s s' n n' : ℤ) (gs gs' : List Group) (r : ℕ) → r ≡ count_by (λ g. int_eq (night_at s g.epoch) n) gs → s ≡ s' → n ≡ n' → gs ≡ gs' → r ≡ count_by (λ g. int_eq (night_at s' g.epoch) n') gs'
-counted s s' n n' gs gs' r h a b e =
-    h ∙ (ap (λ (z : ℤ). count_by (λ (g : Group). int_eq (night_at z g.epoch) n) gs) a
-    ∙ (ap (λ (z : ℤ). count_by (λ (g : Group). int_eq (night_at s' g.epoch) z) gs) b
-    ∙ ap (count_by (λ (g : Group). int_eq (night_at s' g.epoch) n')) e))
-
-pub counted_night : (slots : Slots) (groups gs : List Group) (s shift n night : ℤ) (r : ℕ) → r ≡ count_by (λ g. int_eq (night_at s g.epoch) n) gs → s ≡ shift → n ≡ night → gs ≡ groups
-    → length (of_night shift night (map (exposure_of slots) groups)) ≡ r
-counted_night slots groups gs s shift n night r h a b e = night_count slots groups shift night ∙ sym (counted s shift n night gs groups r h a b e)
+    ∙ (length_map (exposure_of slots) (filter (λ (g : Group). int_eq (night_at shift g.epoch) night) groups) ∙ ap length (sym found))

@@ -1,10 +1,11 @@
 -- The held exposures, the window of nights, and what a call does to them.
 use Rattle.std.specs.Prelude.{◌≡◌, ◌≢◌, slice_index_or, ℕ, ◌+◌, ◌<◌, ◌≤◌, nat_lt, nat_le, nat_eq, ℤ, pos, ◌-ℤ◌, Bool, true, false, not, ◌||◌, ◌==◌, if◌then◌else◌, Option, Some, None, List, [], ◌∷◌, ◌++◌, length, take, slice_get, map, ⊤, Result, MatchResult}
-use Rattle.std.specs.List.{find, filter, flat_map, list_any, range_with_len}
+use Rattle.std.specs.List.{AllWithin, find, filter, flat_map, list_any, range_with_len}
 use Rattle.std.specs.Map.{lookup}
 use Rattle.std.specs.Option.{option_map_or}
 use Rattle.std.specs.Int.Signed.{lt_z}
 use Rattle.std.specs.declared.cmp.Ordering.{Ordering}
+use Rattle.std.specs.declared.cmp.Ordering.TheVariants.{Less, Greater}
 use Rattle.std.specs.Ordering.{int_cmp, int_eq, nat_cmp, ordering_then, is_lt, is_eq, is_gt}
 use Rattle.std.specs.Cmp.Lexicographic.{pointwise, slice_cmp}
 use Rattle.sky_math.specs.Night.{night_at}
@@ -53,6 +54,12 @@ stands_at epoch site x = is_eq (place_cmp epoch site x)
 
 abbrev pub stands_after : ℤ → List ℕ → HeldExposure → Bool
 stands_after epoch site x = is_gt (place_cmp epoch site x)
+
+-- the place among the exposures where one of an epoch and a site would stand, where none stands there
+pub record IsFreePlace (epoch : ℤ) (site : List ℕ) (held : List HeldExposure) (i : ℕ) : Type 0 where
+  pub within : i ≤ length held
+  pub earlier : AllWithin (λ x. place_cmp epoch site x ≡ Less) held 0 i
+  pub later : AllWithin (λ x. place_cmp epoch site x ≡ Greater) held i (length held)
 
 -- the exposures with one more, at its place
 abbrev pub with_exposure : HeldExposure → List HeldExposure → List HeldExposure

@@ -1,8 +1,5 @@
 -- The held detections by number.
-use Rattle.std.specs.Prelude.{◌≡◌, ℕ, ◌+◌, ◌<◌, ◌&&◌, ◌==◌, Bool, not, nat_lt, nat_eq, cond, Option, Some, None, IsSome, is_some, List, length, [], ◌∷◌, ◌++◌, slice_set, slice_index_or, sum_by}
-use Rattle.std.specs.Cmp.Lexicographic.{pointwise}
-use Rattle.std.specs.Map.{lookup}
-use Rattle.std.specs.Global.{Vec}
+use Rattle.std.specs.Prelude.{◌≡◌, ℕ, ◌+◌, ◌<◌, ◌&&◌, ◌==◌, Bool, not, nat_lt, cond, Option, None, IsSome, is_some, List, length, [], ◌∷◌, ◌++◌, slice_set, slice_index_or, sum_by}
 use Rattle.std.specs.declared.cmp.Reverse.{Reverse}
 use Rattle.std.specs.Ordering.{nat_cmp}
 use Rattle.std.specs.BinaryHeap.{IsHeap}
@@ -28,15 +25,6 @@ count_held slots = sum_by (λ held. cond (is_some held) 1 0) slots
 -- the slots once `held` is put at n: in its place, or in a new one behind the others
 abbrev pub put_at : List (Option Observation) → ℕ → Option Observation → List (Option Observation)
 put_at slots n held = cond (nat_lt n (length slots)) (slice_set slots n held) (slots ++ held ∷ [])
-
--- the number of an id among the entries of the map
-abbrev pub number_of : List (Vec ℕ × ℕ) → List ℕ → Option ℕ
-number_of entries id = lookup (λ k. pointwise nat_eq id k.items) entries
-
--- the map has the number of each held id, and no other id
-pub record AreNumbers (slots : List (Option Observation)) (entries : List (Vec ℕ × ℕ)) : Type 0 where
-  pub found : (n : ℕ) (d : Observation) → slot slots n ≡ Some d → number_of entries d.id ≡ Some n
-  pub named : (id : List ℕ) (n : ℕ) → number_of entries id ≡ Some n → (d : Observation) × (slot slots n ≡ Some d) × (d.id ≡ id)
 
 -- a slot is there, and is empty
 abbrev pub is_free : List (Option Observation) → ℕ → Bool

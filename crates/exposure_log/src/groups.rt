@@ -1,9 +1,7 @@
-ghost use Rattle.std.specs.Prelude.{◌≡◌, ◌≢◌, ℕ, ◌+◌, ◌-◌, ◌*◌, ◌^◌, ◌<◌, ◌≤◌, [], ◌∷◌, ◌++◌, None, Some, false, IsSome, IfOk, IfErr, OnErr, OnOk, length, map, nat_eq, cond, slice_index, slice_index_or};
+ghost use Rattle.std.specs.Prelude.{◌≡◌, ◌≢◌, ℕ, ◌+◌, ◌-◌, ◌*◌, ◌^◌, ◌<◌, ◌≤◌, [], Some, IsSome, IfOk, IfErr, OnErr, length, slice_index, slice_index_or};
 ghost use Rattle.std.specs.Vec.{vec_len, vec_capacity};
-ghost use Rattle.std.specs.List.{insert as insert_at, All, Contains, list_any};
+ghost use Rattle.std.specs.List.{insert as insert_at};
 ghost use Rattle.std.specs.List.Sorted.{IsPartitionPoint};
-ghost use Rattle.std.specs.Ordering.{int_cmp, nat_cmp, ordering_then, is_eq};
-ghost use Rattle.std.specs.Cmp.Lexicographic.{slice_cmp};
 ghost use Rattle.std.specs.declared.cmp.Ordering.TheVariants.{Less, Equal, Greater};
 ghost use Rattle.miti_text.specs.Observation.{Observation};
 ghost use Rattle.exposure_log.specs.Numbering.{slot, count_held, with_at, IsLeastFree};
@@ -42,19 +40,6 @@ pub(crate) fn search(groups: &[Group], epoch: i64, site: &[u8]) -> Result<usize,
     ensures missing { IfErr result (λ i. (i ≤ length groups.now) × IsPartitionPoint (λ g. group_cmp epoch site.now g ≡ Less) (λ g. group_cmp epoch site.now g ≡ Greater) groups.now i) }
 {
     groups.binary_search_by(|group| group.compare(epoch, site))
-}
-
-/// The place where a group of this epoch and site would stand, where there is none.
-pub(crate) fn free_place(groups: &[Group], epoch: i64, site: &[u8]) -> usize
-    requires rise { RiseStrictly groups.now }
-    requires free { list_any (λ g. is_eq (group_cmp epoch site.now g)) groups.now ≡ false }
-    ensures within { result ≤ length groups.now }
-    ensures parts { IsPartitionPoint (λ g. group_cmp epoch site.now g ≡ Less) (λ g. group_cmp epoch site.now g ≡ Greater) groups.now result }
-{
-    match search(groups, epoch, site) {
-        Ok(place) => place,
-        Err(place) => place,
-    }
 }
 
 /// Inserts the group at a place, for which there is room.

@@ -1,21 +1,21 @@
-ghost use Rattle.std.specs.Prelude.{◌≡◌, ◌≢◌, ℕ, ℤ, ◌+◌, ◌^◌, ◌<◌, ◌≤◌, ◌≤ℤ◌, ◌<ℤ◌, pos, neg_ℤ, [], None, Some, IsSome, IfOk, IfErr, OnErr, OnOk, ◌++◌, IsTrue, false, cond, length, map, not, option_copied};
-ghost use Rattle.std.specs.List.{All, count_by, filter, list_any, sum_by};
+ghost use Rattle.std.specs.Prelude.{◌≡◌, ◌≢◌, ℕ, ℤ, ◌+◌, ◌^◌, ◌<◌, ◌≤◌, ◌<ℤ◌, pos, neg_ℤ, [], None, Some, IsSome, IfOk, IfErr, OnErr, OnOk, ◌++◌, false, cond, length, map, nat_le, nat_lt, not, option_copied};
+ghost use Rattle.std.specs.List.{filter, list_any, sum_by};
 ghost use Rattle.sky_math.specs.Night.{night_at};
-ghost use Rattle.std.specs.Ordering.{int_eq, is_lt};
-ghost use Rattle.sky_units.specs.Ranges.{IsNightShift, IsEpoch};
+ghost use Rattle.std.specs.Ordering.{is_lt};
+ghost use Rattle.sky_units.specs.Ranges.{IsNightShift};
 ghost use Rattle.miti_text.specs.Observation.{Observation};
 ghost use Rattle.miti_text.specs.CanonicalOrder.{canonical_cmp};
-ghost use Rattle.exposure_log.specs.Groups.{NoneTaken, IsFirstTaken, AreGroups, stays, gone, keeps_night, entries_of};
-ghost use Rattle.std.specs.Int.Signed.{lt_z};
+ghost use Rattle.exposure_log.specs.Groups.{NoneTaken, IsFirstTaken, AreGroups, stays, gone, keeps_night, entries_of, exposure_of};
 ghost use Rattle.exposure_log.specs.Numbering.{slot, count_held};
 ghost use Rattle.exposure_log.specs.Exposures.{IdsDontFall};
-ghost use Rattle.exposure_log.specs.Held.{LogData, Adds, CanBeHeld, Answers, refusal, held_refusal, room_refusal, held_at, detections_of, stands_at, without_exposure, window_refusal, moved, spots_of_night, spot_of, most_detections};
+ghost use Rattle.exposure_log.specs.Held.{LogData, Adds, CanBeHeld, IsFreePlace, Answers, refusal, held_refusal, room_refusal, held_at, detections_of, stands_at, without_exposure, window_refusal, moved, spots_of_night, spot_of, of_night, most_of_a_night, most_detections};
 ghost use Rattle.exposure_log.specs.declared.errors.AddError.TheVariants.{NoMemory as no_memory};
 
 use crate::canonical::compare;
 use crate::errors::{AddError, WindowError};
 use crate::exposures::Exposure;
-use crate::groups::{Group, free_place, insert, let_go_all, search, take_all};
+use crate::groups::{Group, insert, let_go_all, search, take_all};
+use crate::nights::{groups_of_night, lies_before};
 use crate::numbering::Register;
 use miti_text::Detection;
 use sky_units::{NoMemory, Spot, Word, night_of};
@@ -24,9 +24,6 @@ use std::marker::Model;
 
 /// The most nights that a window has, less one.
 const WIDEST: i64 = 15;
-
-/// A day, in ticks.
-const TICKS_PER_DAY: i128 = 1_000_000;
 
 /// The most exposures of a night.
 const MOST_OF_A_NIGHT: usize = 4_096;
@@ -48,7 +45,7 @@ pub struct ExposureLog {
 
 impl Model for ExposureLog {
     ghost use Rattle.std.specs.Prelude.{map};
-    ghost use Rattle.sky_units.specs.Ranges.{IsNightShift, IsEpoch};
+    ghost use Rattle.sky_units.specs.Ranges.{IsNightShift};
     ghost use Rattle.exposure_log.specs.Held.{LogData};
     ghost use Rattle.exposure_log.specs.Groups.{exposure_of, AreGroups};
 
@@ -137,68 +134,85 @@ impl ExposureLog {
         ensures ok { IfOk result (λ n. (refusal self.old exposure.now ≡ None) × (n ≡ length exposure.now.detections) × Adds self.old self.new exposure.now) }
         ensures err { IfErr result (λ e. (self.new ≡ self.old) × (e ≢ no_memory → refusal self.old exposure.now ≡ Some e)) }
     {
-        if let Some(error) = self.refuses(exposure) {
-            return Err(error);
-        }
-        Ok(self.put(exposure)?)
+        let place = self.place_for(exposure)?;
+        Ok(self.put(place, exposure)?)
     }
 
-    /// Why the log doesn't take the exposure: the first cause that holds.
-    fn refuses(&self, exposure: &Exposure) -> Option<AddError>
-        ensures cause { result ≡ refusal self.now exposure.now }
-        ensures free { result ≡ None → CanBeHeld self.now exposure.now }
+    /// The place of the exposure among the groups, or the first cause for which the log doesn't take it.
+    fn place_for(&self, exposure: &Exposure) -> Result<usize, AddError>
+        ensures place { IfOk result (λ place. (refusal self.now exposure.now ≡ None) × CanBeHeld self.now exposure.now × IsFreePlace exposure.now.epoch exposure.now.site self.now.exposures place) }
+        ensures cause { IfErr result (λ e. refusal self.now exposure.now ≡ Some e) }
     {
         let Some((lo, hi)) = self.window else {
-            return Some(AddError::NoWindow);
+            return Err(AddError::NoWindow);
         };
         let night = night_of(exposure.epoch(), self.night_shift);
         if night < lo {
-            return Some(AddError::Old);
+            return Err(AddError::Old);
         }
         if hi < night {
-            return Some(AddError::New);
+            return Err(AddError::New);
         }
-        self.refuses_in_window(exposure)
+        self.place_in_window(exposure, night)
     }
 
-    /// Why the log doesn't take an exposure whose night lies in the window.
-    fn refuses_in_window(&self, exposure: &Exposure) -> Option<AddError>
-        ensures cause { result ≡ held_refusal self.now exposure.now }
-        ensures free { result ≡ None → CanBeHeld self.now exposure.now }
+    /// The same for an exposure whose night lies in the window.
+    fn place_in_window(&self, exposure: &Exposure, night: i64) -> Result<usize, AddError>
+        requires { night ≡ night_at self.now.night_shift exposure.now.epoch }
+        ensures place { IfOk result (λ place. (held_refusal self.now exposure.now ≡ None) × CanBeHeld self.now exposure.now × IsFreePlace exposure.now.epoch exposure.now.site self.now.exposures place) }
+        ensures cause { IfErr result (λ e. held_refusal self.now exposure.now ≡ Some e) }
     {
         let epoch = exposure.epoch();
-        if let Ok(_) = search(self.groups.as_slice(), epoch, exposure.site()) {
-            return Some(AddError::Held);
+        let Err(place) = search(self.groups.as_slice(), epoch, exposure.site()) else {
+            return Err(AddError::Held);
+        };
+        if let Some(at) = first_taken(&self.register, exposure.detections()) {
+            return Err(AddError::Id(at));
         }
-        if let Some(place) = first_taken(&self.register, exposure.detections()) {
-            return Some(AddError::Id(place));
+        if let Some(error) = self.refuses_for_room(exposure, night) {
+            return Err(error);
         }
-        self.refuses_for_room(exposure)
+        Ok(place)
     }
 
     /// Why the log has no room for an exposure.
-    fn refuses_for_room(&self, exposure: &Exposure) -> Option<AddError>
+    fn refuses_for_room(&self, exposure: &Exposure, night: i64) -> Option<AddError>
+        requires { night ≡ night_at self.now.night_shift exposure.now.epoch }
         ensures cause { result ≡ room_refusal self.now exposure.now }
         ensures free { result ≡ None → length (detections_of self.now.exposures) + length exposure.now.detections ≤ most_detections }
     {
-        let night = night_of(exposure.epoch(), self.night_shift);
-        if count_of_night(self.groups.as_slice(), self.night_shift, night) >= MOST_OF_A_NIGHT {
+        if self.is_night_full(night) {
             return Some(AddError::NightFull);
         }
-        if self.detections() as usize + exposure.detections().len() > MOST_DETECTIONS {
+        if self.is_full_with(exposure.detections().len()) {
             return Some(AddError::Full);
         }
         None
     }
 
-    /// Holds an exposure that nothing refuses.
-    fn put(&mut self, exposure: &Exposure) -> Result<u32, NoMemory>
-        requires { CanBeHeld self.old exposure.now }
+    /// Whether a night holds no more exposures.
+    fn is_night_full(&self, night: i64) -> bool
+        ensures { result ≡ nat_le most_of_a_night (length (of_night self.now.night_shift night self.now.exposures)) }
+    {
+        groups_of_night(self.groups.as_slice(), self.night_shift, night).len() >= MOST_OF_A_NIGHT
+    }
+
+    /// Whether the log doesn't hold so many more detections.
+    fn is_full_with(&self, more: usize) -> bool
+        requires { more < 2 ^ 32 }
+        ensures { result ≡ nat_lt most_detections (length (detections_of self.now.exposures) + more) }
+    {
+        self.detections() as usize + more > MOST_DETECTIONS
+    }
+
+    /// Holds an exposure that nothing refuses, at its place among the groups.
+    fn put(&mut self, place: usize, exposure: &Exposure) -> Result<u32, NoMemory>
+        requires free { CanBeHeld self.old exposure.now }
+        requires place { IsFreePlace exposure.now.epoch exposure.now.site self.old.exposures place }
         ensures ok { IfOk result (λ n. (n ≡ length exposure.now.detections) × Adds self.old self.new exposure.now) }
         ensures err { OnErr result (self.new ≡ self.old) }
     {
         let epoch = exposure.epoch();
-        let place = free_place(self.groups.as_slice(), epoch, exposure.site());
         let site = Word::new(self.alloc, exposure.site())?;
         self.groups.reserve(1)?;
         let numbers = take_all(&mut self.register, self.alloc, exposure.detections())?;
@@ -228,13 +242,11 @@ impl ExposureLog {
     pub fn night(&self, night: i64) -> Result<Vec<Spot>, NoMemory>
         ensures { IfOk result (λ spots. spots.items ≡ spots_of_night self.now night) }
     {
-        let mut spots = Vec::new(self.alloc);
-        for group in &self.groups {
-            if night_of(group.epoch, self.night_shift) == night {
-                push_spots(&mut spots, &self.register, group.numbers.as_slice())?;
-            }
-        }
-        Ok(spots)
+        spots_of(
+            self.alloc,
+            &self.register,
+            groups_of_night(self.groups.as_slice(), self.night_shift, night),
+        )
     }
 
     /// How many exposures are held.
@@ -300,28 +312,6 @@ fn first_taken(register: &Register, detections: &[Detection]) -> Option<u32>
     None
 }
 
-/// How many of the groups are of a night.
-fn count_of_night(groups: &[Group], shift: i64, night: i64) -> usize
-    requires epochs { All (λ g. IsEpoch g.epoch) groups.now }
-    requires shift { IsNightShift shift }
-    ensures { result ≡ count_by (λ g. int_eq (night_at shift g.epoch) night) groups.now }
-{
-    let mut count = 0;
-    for group in groups {
-        if night_of(group.epoch, shift) == night {
-            count += 1;
-        }
-    }
-    count
-}
-
-/// Whether the night of an epoch under a shift lies before a night.
-fn lies_before(epoch: i64, shift: i64, night: i64) -> bool
-    ensures { result ≡ lt_z (night_at shift epoch) night }
-{
-    (i128::from(epoch) + i128::from(shift)).div_euclid(TICKS_PER_DAY) < i128::from(night)
-}
-
 /// Lets go of the detections of all groups whose night lies before a night. This takes no memory.
 fn forget_before(register: &mut Register, groups: &[Group], shift: i64, night: i64)
     requires { AreGroups register.old groups.now }
@@ -345,6 +335,17 @@ fn labelled(number: u32, detection: &Detection) -> Spot
         ra: detection.ra,
         dec: detection.dec,
     }
+}
+
+/// The spots of the detections of these groups, in order.
+fn spots_of(alloc: Global, register: &Register, groups: &[Group]) -> Result<Vec<Spot>, NoMemory>
+    ensures { IfOk result (λ spots. spots.items ≡ map spot_of (detections_of (map (exposure_of register.now) groups.now))) }
+{
+    let mut spots = Vec::new(alloc);
+    for group in groups {
+        push_spots(&mut spots, register, group.numbers.as_slice())?;
+    }
+    Ok(spots)
 }
 
 /// Adds the spots of the detections of these numbers.

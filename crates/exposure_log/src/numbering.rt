@@ -1,10 +1,10 @@
-ghost use Rattle.std.specs.Prelude.{◌≡◌, ◌≢◌, ℕ, ◌+◌, ◌-◌, ◌^◌, ◌<◌, ◌≤◌, [], ◌∷◌, ◌++◌, ◌↔◌, None, Some, IsSome, IfSome, IsTrue, IfOk, OnOk, OnErr, MatchOption, max, length, nat_eq, slice_set, option_copied, if◌then◌else◌};
+ghost use Rattle.std.specs.Prelude.{◌≡◌, ◌≢◌, ℕ, ◌+◌, ◌-◌, ◌^◌, ◌<◌, ◌≤◌, [], None, Some, IsSome, IfOk, OnOk, OnErr, max, length, option_copied};
 ghost use Rattle.std.specs.BinaryHeap.{heap_items, heap_capacity};
 ghost use Rattle.std.specs.Vec.{vec_len, vec_capacity};
 ghost use Rattle.miti_text.specs.Observation.{Observation};
-ghost use Rattle.exposure_log.specs.Numbering.{with_at, put_at, IsLeastFree, slot, count_held, number_of, AreNumbers, AreFree};
+ghost use Rattle.exposure_log.specs.Numbering.{with_at, put_at, IsLeastFree, slot, count_held, AreFree};
 
-use indexmap::IndexMap;
+use crate::id_numbers::IdNumbers;
 use miti_text::Detection;
 use sky_units::NoMemory;
 use std::alloc::Global;
@@ -16,14 +16,15 @@ use std::marker::Model;
 #[derive(Drop)]
 pub(crate) struct Register {
     slots: Vec<Option<Detection>>,
-    numbers: IndexMap<Vec<u8>, u32>,
+    ids: IdNumbers,
     free: BinaryHeap<Reverse<u32>>,
 }
 
 impl Model for Register {
     ghost use Rattle.std.specs.Prelude.{◌≤◌, List, Option};
     ghost use Rattle.miti_text.specs.Observation.{Observation};
-    ghost use Rattle.exposure_log.specs.Numbering.{AreNumbers, AreFree};
+    ghost use Rattle.exposure_log.specs.IdNumbers.{AreNumbers};
+    ghost use Rattle.exposure_log.specs.Numbering.{AreFree};
     ghost use Rattle.std.specs.BinaryHeap.{heap_items, heap_capacity};
     ghost use Rattle.std.specs.Vec.{vec_len};
 
@@ -31,7 +32,7 @@ impl Model for Register {
 
     ghost view = { λ r. r.slots.items };
 
-    ghost invariant = { λ r. AreNumbers r.slots.items r.numbers.entries × AreFree r.slots.items (heap_items r.free) × (vec_len r.slots ≤ heap_capacity r.free) };
+    ghost invariant = { λ r. AreNumbers r.slots.items r.ids.by_hash.entries r.ids.by_id.entries × AreFree r.slots.items (heap_items r.free) × (vec_len r.slots ≤ heap_capacity r.free) };
 }
 
 impl Register {
@@ -41,7 +42,7 @@ impl Register {
     {
         Register {
             slots: Vec::new(alloc),
-            numbers: IndexMap::new(alloc),
+            ids: IdNumbers::new(alloc),
             free: BinaryHeap::new(alloc),
         }
     }
@@ -66,7 +67,7 @@ impl Register {
         ensures none { result ≡ None → (n : ℕ) (d : Observation) → slot self.now n ≡ Some d → d.id ≢ id.now }
         ensures some { (n : ℕ) → result ≡ Some n → (d : Observation) × (slot self.now n ≡ Some d) × (d.id ≡ id.now) }
     {
-        self.numbers.get(id).copied()
+        self.ids.find(self.slots.as_slice(), id)
     }
 
     /// Gives the detection the least number that no held one has. Its id must not be held.
@@ -77,12 +78,11 @@ impl Register {
         ensures err { OnErr result (self.new ≡ self.old) }
     {
         let id = Vec::from_slice(alloc, detection.id.bytes())?;
-        self.slots.reserve(1)?;
-        self.numbers.reserve(1)?;
-        reserve_for(&mut self.free, self.slots.capacity())?;
+        self.ids.reserve()?;
+        make_room(&mut self.slots, &mut self.free)?;
         let number = least_free(&mut self.free, self.slots.as_slice());
         put(&mut self.slots, number as usize, detection);
-        let _ = self.numbers.insert(id, number);
+        self.ids.enter(id, number);
         Ok(number)
     }
 
@@ -93,10 +93,28 @@ impl Register {
         ensures count { count_held self.new + 1 ≡ count_held self.old }
     {
         if let Some(detection) = self.slots[number as usize].take() {
-            self.numbers.swap_remove(detection.id.bytes());
+            self.ids.strike(detection.id.bytes(), number);
             let _ = self.free.push(Reverse(number));
         }
     }
+}
+
+/// Makes room for one detection more, and for the number of each slot among the free ones. Where a
+/// number is free, its slot has the room.
+fn make_room(
+    slots: &mut Vec<Option<Detection>>,
+    free: &mut BinaryHeap<Reverse<u32>>,
+) -> Result<(), NoMemory>
+    ensures items { slots.new.items ≡ slots.old.items }
+    ensures same { heap_items free.new ≡ heap_items free.old }
+    ensures room { OnOk result (heap_items free.old ≡ [] → vec_len slots.new < vec_capacity slots.new) }
+    ensures free_room { OnOk result (vec_capacity slots.new ≤ heap_capacity free.new) }
+    ensures kept { heap_capacity free.old ≤ heap_capacity free.new }
+{
+    if free.is_empty() {
+        slots.reserve(1)?;
+    }
+    reserve_for(free, slots.capacity())
 }
 
 /// Makes room for as many numbers as there are slots.
@@ -117,6 +135,7 @@ fn least_free(free: &mut BinaryHeap<Reverse<u32>>, slots: &[Option<Detection>]) 
     requires few { count_held slots.now + 1 < 2 ^ 32 }
     ensures least { IsLeastFree (slot slots.now) result }
     ensures within { result ≤ length slots.now }
+    ensures new { length slots.now ≤ result → heap_items free.old ≡ [] }
     ensures rest { (d : Observation) → AreFree (put_at slots.now result (Some d)) (heap_items free.new) }
     ensures room { heap_capacity free.new ≡ heap_capacity free.old }
 {
@@ -129,7 +148,7 @@ fn least_free(free: &mut BinaryHeap<Reverse<u32>>, slots: &[Option<Detection>]) 
 /// Puts the detection into the slot, or into a new one behind the others.
 fn put(slots: &mut Vec<Option<Detection>>, number: usize, detection: Detection)
     requires within { number ≤ vec_len slots.old }
-    requires room { vec_len slots.old < vec_capacity slots.old }
+    requires room { vec_len slots.old ≤ number → vec_len slots.old < vec_capacity slots.old }
     ensures items { slots.new.items ≡ put_at slots.old.items number (Some detection) }
     ensures len { vec_len slots.new ≤ max (vec_len slots.old) (number + 1) }
 {

@@ -1,7 +1,6 @@
-use Rattle.std.proofs.Common.{◌≡◌, ◌<◌, ◌∙◌, sym, ap, arith, length, get_or, Some, None, Option, append_assoc, ◌++◌, ◌∷◌, [], refl}
+use Rattle.std.proofs.Common.{◌≡◌, ◌<◌, ◌∙◌, sym, ap, arith, length, Some, None, append_assoc, ◌++◌, ◌∷◌, [], refl}
 use Rattle.std.proofs.lemmas.List.{append-nil}
-use Rattle.exposure_log.specs.Numbering.{slot}
-use Rattle.exposure_log.proofs.Spots.{one_number, one_spot}
+use Rattle.exposure_log.proofs.Spots.{one_number}
 use Rattle.exposure_log.proofs.log.push_spots.Goals as goal
 use Rattle.exposure_log.proofs.log.push_spots.Goals.{in-Some+in_ok-push, in_default}
 

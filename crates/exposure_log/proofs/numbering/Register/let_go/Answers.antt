@@ -1,11 +1,10 @@
-use Rattle.std.proofs.Common.{◌≡◌, ℕ, cond, List, None, Some, arith, ◌∙◌, sym, ap, nat_eq}
+use Rattle.std.proofs.Common.{◌≡◌, None, Some, arith, ◌∙◌, sym, ap}
 use Rattle.miti_text.specs.Observation.{Observation}
 use Rattle.std.specs.BinaryHeap.{heap_items}
-use Rattle.std.specs.Cmp.Lexicographic.{pointwise}
-use Rattle.exposure_log.specs.Numbering.{slot, number_of}
+use Rattle.exposure_log.specs.Numbering.{slot}
 use Rattle.exposure_log.proofs.Slots.{slot-set, within_from_some, read_is}
 use Rattle.exposure_log.proofs.FreeNumbers.{freed, room_for}
-use Rattle.exposure_log.proofs.Ids.{changed, without}
+use Rattle.exposure_log.proofs.Ids.{without}
 use Rattle.exposure_log.proofs.Answered.{on_ok}
 use Rattle.exposure_log.proofs.numbering.Register.let_go.Goals as goal
 
@@ -15,14 +14,13 @@ invariant_of-self c =
     let there : slot c.self.inside.slots.items c.args.number ≡ Some c.in-Some.detection =
     read_is c.self.inside.slots.items c.args.number c.index_mut.result.now within c.index_mut.ensures.value ∙ sym c.in-Some.ensures.value in
     let named : c.bytes.result.now ≡ c.in-Some.detection.id = c.bytes.ensures ∙ ap (λ (x : Observation). x.id) c.detection.view_is in
-    let says : (id : List ℕ) → number_of c.swap_remove.new.self.entries id ≡ cond (pointwise nat_eq c.in-Some.detection.id id) None (number_of c.self.inside.numbers.entries id) =
-    changed c.self.inside.numbers c.swap_remove.new.self c.in-Some.detection.id None (rw (← named) c.swap_remove.ensures.updates) in
+    let struck = rw named at c.strike.ensures in
     let few = room_for c.self.inside.slots.items c.args.number c.in-Some.detection (heap_items c.self.inside.free) c.self.invariant.1 there in
     let pushed = c.push.ensures.succeeds (omega (arith, few, c.self.inside.free.data.ok.0, c.self.inside.slots.ok.0, c.self.invariant.2)) in
     let joins = on_ok c.push.result pushed c.push.ensures.permutation in
     let heap = on_ok c.push.result pushed c.push.ensures.heap_order c.self.invariant.1.order in
     rw c.take.ensures.after (
-      without c.self.inside.slots.items c.args.number c.in-Some.detection c.self.inside.numbers.entries c.swap_remove.new.self.entries c.self.invariant.0 there says,
+      without c.self.inside.slots.items c.args.number c.in-Some.detection c.self.inside.ids.by_hash.entries c.self.inside.ids.by_id.entries c.self.invariant.0 there c.strike.new.self.by_hash.entries c.strike.new.self.by_id.entries struck,
       freed c.self.inside.slots.items c.args.number c.in-Some.detection (heap_items c.self.inside.free) (heap_items c.push.new.self) c.self.invariant.1 there joins heap,
       omega (arith, c.push.ensures.capacity, c.self.invariant.2),
     )

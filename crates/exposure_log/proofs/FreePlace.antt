@@ -1,0 +1,42 @@
+-- A free place among the groups is one among the exposures.
+use Rattle.std.proofs.Common.{◌≡◌, ℕ, ◌<◌, ◌≤◌, ℤ, Option, List, [], ◌∷◌, length, get_or, map, zero, suc, refl, arith}
+use Rattle.std.proofs.Math.ListN.{get_or-map}
+use Rattle.std.specs.List.Sorted.{IsPartitionPoint}
+use Rattle.std.specs.declared.cmp.Ordering.TheVariants.{Less, Greater}
+use Rattle.miti_text.specs.Observation.{Observation}
+use Rattle.exposure_log.specs.declared.groups.Group.{Group}
+use Rattle.exposure_log.specs.Held.{HeldExposure, IsFreePlace, place_cmp}
+use Rattle.exposure_log.specs.Groups.{group_cmp, exposure_of}
+
+abbrev Slots : Type 0
+Slots = List (Option Observation)
+
+length_map : (f : Group → HeldExposure) (gs : List Group) → length (map f gs) ≡ length gs
+length_map f [] = refl
+length_map f (g ∷ gs) = let e = length_map f gs in omega (arith, e)
+
+at_place : (P : HeldExposure → Type 0) (f : Group → HeldExposure) (gs : List Group) (k : ℕ) (d : HeldExposure) → k < length gs → ((g : Group) → P (f (get_or gs k g))) → P (get_or (map f gs) k d)
+at_place P f [] k d h all = absurd (omega arith)
+at_place P f (g ∷ gs) zero d h all = all g
+at_place P f (g ∷ gs) (suc k) d h all = at_place P f gs k d (omega arith) all
+
+pub among_exposures : (slots : Slots) (groups : List Group) (epoch : ℤ) (site : List ℕ) (i : ℕ) → i ≤ length groups
+    → IsPartitionPoint (λ g. group_cmp epoch site g ≡ Less) (λ g. group_cmp epoch site g ≡ Greater) groups i → IsFreePlace epoch site (map (exposure_of slots) groups) i
+among_exposures slots groups epoch site i h parts =
+    let len = length_map (exposure_of slots) groups in
+    record {
+      within = omega (arith, h, len);
+      earlier = λ k d low high. at_place (λ x. place_cmp epoch site x ≡ Less) (exposure_of slots) groups k d (omega (arith, high, h)) (λ g. parts.0 k g low high);
+      later = λ k d low high. at_place (λ x. place_cmp epoch site x ≡ Greater) (exposure_of slots) groups k d (omega (arith, high, len)) (λ g. parts.1 k g low (omega (arith, high, len)));
+    }
+
+pub among_groups : (slots : Slots) (groups : List Group) (epoch : ℤ) (site : List ℕ) (i : ℕ) → IsFreePlace epoch site (map (exposure_of slots) groups) i
+    → (i ≤ length groups) × IsPartitionPoint (λ g. group_cmp epoch site g ≡ Less) (λ g. group_cmp epoch site g ≡ Greater) groups i
+among_groups slots groups epoch site i free =
+    let len = length_map (exposure_of slots) groups in (
+      omega (arith, free.within, len),
+      (
+        (λ k g low high. rw (get_or-map (exposure_of slots) groups k g) at (free.earlier k (exposure_of slots g) low high)),
+        (λ k g low high. rw (get_or-map (exposure_of slots) groups k g) at (free.later k (exposure_of slots g) low (omega (arith, high, len)))),
+      ),
+    )

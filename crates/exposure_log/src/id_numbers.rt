@@ -1,0 +1,123 @@
+ghost use Rattle.std.specs.Prelude.{◌≡◌, ◌≢◌, ℕ, ◌<◌, [], true, false, None, Some, OnOk, MatchBool};
+ghost use Rattle.std.specs.HashMap.{spare};
+ghost use Rattle.miti_text.specs.Observation.{Observation};
+ghost use Rattle.exposure_log.specs.Numbering.{slot};
+ghost use Rattle.exposure_log.specs.IdNumbers.{id_hash, hash_step, under_hash, AreNumbers, Enters, Strikes};
+
+use indexmap::IndexMap;
+use miti_text::Detection;
+use sky_units::NoMemory;
+use std::alloc::Global;
+
+/// What the hash of the bytes before is multiplied by.
+const MULTIPLIER: u64 = 1_099_511_628_211;
+
+/// The number of each held id, by a hash of its bytes. A map of the ids would hold each a second
+/// time; here it has only those whose hash is another's too.
+#[derive(Drop)]
+pub(crate) struct IdNumbers {
+    pub(crate) by_hash: IndexMap<u64, u32>,
+    pub(crate) by_id: IndexMap<Vec<u8>, u32>,
+}
+
+impl IdNumbers {
+    /// No ids. This takes no memory.
+    pub(crate) fn new(alloc: Global) -> IdNumbers
+        ensures hashes { result.by_hash.entries ≡ [] }
+        ensures ids { result.by_id.entries ≡ [] }
+    {
+        IdNumbers {
+            by_hash: IndexMap::new(alloc),
+            by_id: IndexMap::new(alloc),
+        }
+    }
+
+    /// The number of this id, if a held detection has it.
+    pub(crate) fn find(&self, slots: &[Option<Detection>], id: &[u8]) -> Option<u32>
+        requires { AreNumbers slots.now self.now.by_hash.entries self.now.by_id.entries }
+        ensures none { result ≡ None → (n : ℕ) (d : Observation) → slot slots.now n ≡ Some d → d.id ≢ id.now }
+        ensures some { (n : ℕ) → result ≡ Some n → (d : Observation) × (slot slots.now n ≡ Some d) × (d.id ≡ id.now) }
+    {
+        if let Some(number) = self.by_hash.get(&hash_of(id)).copied() {
+            if is_id_of(slots, number, id) {
+                return Some(number);
+            }
+        }
+        self.by_id.get(id).copied()
+    }
+
+    /// Makes room for one more id.
+    pub(crate) fn reserve(&mut self) -> Result<(), NoMemory>
+        ensures hashes { self.new.by_hash.entries ≡ self.old.by_hash.entries }
+        ensures ids { self.new.by_id.entries ≡ self.old.by_id.entries }
+        ensures ok { OnOk result ((0 < spare self.new.by_hash) × (0 < spare self.new.by_id)) }
+    {
+        self.by_hash.reserve(1)?;
+        self.by_id.reserve(1)?;
+        Ok(())
+    }
+
+    /// Enters the number of an id, for which there is room. This takes no memory.
+    pub(crate) fn enter(&mut self, id: Vec<u8>, number: u32)
+        requires { (0 < spare self.old.by_hash) × (0 < spare self.old.by_id) }
+        ensures { Enters self.old.by_hash.entries self.old.by_id.entries self.new.by_hash.entries self.new.by_id.entries id.items number }
+    {
+        let hash = hash_of(id.as_slice());
+        match self.by_hash.get(&hash).copied() {
+            None => {
+                let _ = self.by_hash.insert(hash, number);
+            }
+            Some(_) => {
+                let _ = self.by_id.insert(id, number);
+            }
+        }
+    }
+
+    /// Strikes out the number of an id. This takes no memory.
+    pub(crate) fn strike(&mut self, id: &[u8], number: u32)
+        ensures { Strikes self.old.by_hash.entries self.old.by_id.entries self.new.by_hash.entries self.new.by_id.entries id.now number }
+    {
+        let hash = hash_of(id);
+        if stands_under(&self.by_hash, hash, number) {
+            self.by_hash.swap_remove(&hash);
+        } else {
+            self.by_id.swap_remove(id);
+        }
+    }
+}
+
+/// Whether the number stands under the hash.
+fn stands_under(by_hash: &IndexMap<u64, u32>, hash: u64, number: u32) -> bool
+    ensures { MatchBool result (under_hash by_hash.now.entries hash ≡ Some number) (under_hash by_hash.now.entries hash ≢ Some number) }
+{
+    by_hash.get(&hash).copied() == Some(number)
+}
+
+/// Whether the held detection of the number has this id.
+fn is_id_of(slots: &[Option<Detection>], number: u32, id: &[u8]) -> bool
+    ensures yes { result ≡ true → (d : Observation) × (slot slots.now number ≡ Some d) × (d.id ≡ id.now) }
+    ensures no { result ≡ false → (d : Observation) → slot slots.now number ≡ Some d → d.id ≢ id.now }
+{
+    match slots.get(number as usize) {
+        Some(Some(detection)) => detection.id.bytes() == id,
+        _ => false,
+    }
+}
+
+/// A hash of an id's bytes.
+fn hash_of(id: &[u8]) -> u64
+    ensures { result ≡ id_hash id.now }
+{
+    let mut hash = 0;
+    for byte in id {
+        hash = hash_with(hash, *byte);
+    }
+    hash
+}
+
+/// The hash of the bytes before and of one more.
+fn hash_with(hash: u64, byte: u8) -> u64
+    ensures { result ≡ hash_step hash byte }
+{
+    hash.wrapping_mul(MULTIPLIER).wrapping_add(u64::from(byte))
+}
