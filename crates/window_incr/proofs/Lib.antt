@@ -1,0 +1,11 @@
+pub mod Collecting
+pub mod Fewer
+pub mod Keeping
+pub mod Lookup
+pub mod Ranked
+pub mod Relabelled
+pub mod Reporting
+pub mod SameHeld
+pub mod Steps
+pub mod Agreement
+pub mod Existence
