@@ -1,6 +1,6 @@
 -- How a run ends, by its status.
 use Rattle.std.proofs.Common.{◌≡◌, ℕ, ◌+◌, ◌^◌, [], refl, sym, ◌∙◌, ap, subst, arith, Bool, true, false}
-use Rattle.std.specs.Prelude.{IfSome, Result, Ok, Err, ◌↔◌}
+use Rattle.std.specs.Prelude.{IfSome, Some, Result, Ok, Err, ◌↔◌, ◌||◌}
 use Rattle.std.specs.Io.KnownBytes.{IsAtEnd}
 use Rattle.outer_io.specs.Supply.{Supply, Rises}
 use Rattle.outer_io.specs.Receipt.{Receipt}
@@ -9,11 +9,13 @@ use Rattle.outer_io.specs.declared.line_reader.Got.{Got}
 use Rattle.outer_io.specs.declared.line_reader.Got.TheVariants.{End}
 use Rattle.outer_io.specs.declared.line_reader.ReadStop.{ReadStop}
 use Rattle.outer_io.specs.declared.line_reader.ReadStop.TheVariants.{Failed, TooLong}
-use Rattle.mops_run.specs.Sky.{State}
-use Rattle.mops_run.specs.Answering.{FailsToAnswer}
-use Rattle.mops_run.specs.Promise.{WritesAll, WritesFront, Watches, IsSpent}
-use Rattle.mops_run.specs.declared.top.Status.TheVariants.{Done, DoneWithRefusals, ReadFault, WriteFault, NoMemory, InputTooLong}
-use Rattle.mops_run.proofs.SoFar.{SoFar, NextLine, WritesFront-so_far, WritesFront-failed, WritesAll-end, Takes-within, or_true, risen-then}
+use Rattle.mops_run.specs.State.{State}
+use Rattle.mops_run.specs.Output.{text_of_all}
+use Rattle.mops_run.specs.Answering.{FailsToAnswer, Finished, FailsToFinish}
+use Rattle.mops_run.specs.Promise.{WritesAll, WritesFront, Watches, IsSpent, SourceFaults, SinkFaults, refused_by, done_status}
+use Rattle.mops_run.specs.declared.top.Status.{Status}
+use Rattle.mops_run.specs.declared.top.Status.TheVariants.{Done, DoneWithRefusals, Usage, ReadFault, WriteFault, NoMemory, InputTooLong}
+use Rattle.mops_run.proofs.SoFar.{SoFar, NextLine, Adds-then, WritesFront-so_far, WritesFront-failed, WritesFront-unfinished, WritesFront-whole, WritesAll-end, Takes-within, or_true, risen-then}
 
 -- a write failed in the middle of the replies to a line
 pub Watches-write_fault : (source_old : Supply) (reader reader' : Reading) (source source' : Supply) (sink_old sink sink' : Receipt) (number : ℕ) (state : State) (refused : Bool)
@@ -27,7 +29,7 @@ Watches-write_fault source_old reader reader' source source' sink_old sink sink'
       spent = tt;
       flushed = λ no. absurd no;
       source_faults = next.faults ∙ so.faults;
-      sink_faults = subst (λ n. Rises n sink'.faults) faults failed.2.faults;
+      sink_faults = subst (λ n. Rises n sink'.faults) faults failed.fails.faults;
       taken = Takes-within WriteFault source_old source source' reader reader' so.taken next.counts (λ h. cc) (λ h. omega (arith, h, next.within));
       used = λ h. cc;
     }
@@ -100,42 +102,89 @@ spent-at_end source_old reader reader' source source' sink_old sink number state
     cases true was = subst (λ (s : Supply). (s.ended ≡ true) × IsAtEnd s.left) (sym (over was)) (so.spent was)
     cases false was = (ends.marked was ∙ rw ended (or_true source.ended), ends.none_left was ended)
 
--- all was read and answered, and nothing was refused
-pub Watches-done : (source_old : Supply) (reader reader' : Reading) (source source' : Supply) (sink_old sink : Receipt) (number : ℕ) (state : State) (refused : Bool)
-    (result : Result Got ReadStop) → SoFar source_old reader source sink_old sink number state refused → result ≡ Ok End → refused ≡ false
+-- a step of the reader to the end
+pub record AtEnd (source_old : Supply) (reader reader' : Reading) (source source' : Supply) : Type 0 where
+  pub none_ahead : IfSome (ahead reader source) (λ bytes. bytes ≡ [])
+  pub faults : source'.faults ≡ source_old.faults
+  pub counts : CountsOn reader reader' source source'
+  pub within : reader'.took ≡ 2 ^ 32 → ⊥
+  pub spent : IsSpent source'
+
+pub AtEnd-from : (source_old : Supply) (reader reader' : Reading) (source source' : Supply) (sink_old sink : Receipt) (number : ℕ) (state : State) (refused : Bool)
+    (result : Result Got ReadStop) → SoFar source_old reader source sink_old sink number state refused → result ≡ Ok End
     → (result ≡ Ok End → IfSome (ahead reader source) (λ bytes. bytes ≡ [])) → (result ≡ Ok End → reader'.ended ≡ true)
     → FaultsAfter result source.faults source'.faults → CountsOn reader reader' source source' → ((result ≡ Err TooLong) ↔ (reader'.took ≡ 2 ^ 32))
-    → Ends reader reader' source source' → (reader.ended ≡ true → source' ≡ source) → Watches Done source_old source' sink_old sink
-Watches-done source_old reader reader' source source' sink_old sink number state refused result so is none end answered faults counts limit ends over =
+    → Ends reader reader' source source' → (reader.ended ≡ true → source' ≡ source) → AtEnd source_old reader reader' source source'
+AtEnd-from source_old reader reader' source source' sink_old sink number state refused result so is end answered faults counts limit ends over =
     let same : source'.faults ≡ source.faults = subst (λ (r : Result Got ReadStop). FaultsAfter r source.faults source'.faults) is faults in
     record {
-      whole = subst (λ b. IfSome source_old.left (λ input. WritesAll input sink_old sink b)) none
-          (WritesAll-end source_old reader source sink_old sink number state refused so (end is));
-      front = WritesFront-so_far source_old reader source sink_old sink number state refused so;
+      none_ahead = end is;
+      faults = same ∙ so.faults;
+      counts = counts;
+      within = λ h. let long : result ≡ Err TooLong = limit.1 h in cc;
       spent = spent-at_end source_old reader reader' source source' sink_old sink number state refused so ends (answered is) over;
-      flushed = λ _. so.adds.whole;
-      source_faults = same ∙ so.faults;
-      sink_faults = so.adds.faults;
-      taken = Takes-within Done source_old source source' reader reader' so.taken counts (λ h. cc) (λ h. let long : result ≡ Err TooLong = limit.1 h in cc);
+    }
+
+-- all was read and answered, by a status that says whether something was refused
+finished_by : (status : Status) (source_old : Supply) (reader reader' : Reading) (source source' : Supply) (sink_old sink sink' : Receipt) (number : ℕ) (state : State) (refused bad : Bool)
+    → refused_by status ≡ Some (refused || bad) → (source'.faults ≡ source_old.faults → SourceFaults status source_old.faults source'.faults)
+    → (sink'.faults ≡ sink_old.faults → SinkFaults status sink_old.faults sink'.faults) → (status ≡ InputTooLong → ⊥) → (status ≡ Usage → ⊥)
+    → SoFar source_old reader source sink_old sink number state refused → AtEnd source_old reader reader' source source' → Finished state sink sink' bad
+    → Watches status source_old source' sink_old sink'
+finished_by status source_old reader reader' source source' sink_old sink sink' number state refused bad by source_faults sink_faults not_long not_usage so over finished =
+    let whole : IfSome source_old.left (λ input. WritesAll input sink_old sink' (refused || bad)) =
+    WritesAll-end source_old reader source sink_old sink sink' number state refused bad so over.none_ahead finished in
+    let adds = Adds-then sink_old sink sink' (text_of_all so.replies) (text_of_all finished.given) so.adds finished.says.adds in
+    record {
+      whole = rw by whole;
+      front = WritesFront-whole source_old.left sink_old sink' (refused || bad) whole;
+      spent = rw by over.spent;
+      flushed = λ _. adds.whole;
+      source_faults = source_faults over.faults;
+      sink_faults = sink_faults adds.faults;
+      taken = Takes-within status source_old source source' reader reader' so.taken over.counts not_long over.within;
+      used = not_usage;
+    }
+
+-- all was read and answered
+pub Watches-done : (source_old : Supply) (reader reader' : Reading) (source source' : Supply) (sink_old sink sink' : Receipt) (number : ℕ) (state : State) (refused bad : Bool)
+    → SoFar source_old reader source sink_old sink number state refused → AtEnd source_old reader reader' source source' → Finished state sink sink' bad
+    → Watches (done_status (refused || bad)) source_old source' sink_old sink'
+Watches-done source_old reader reader' source source' sink_old sink sink' number state refused bad so over finished = cases (refused || bad) refl
+  where
+    cases : (b : Bool) → (refused || bad) ≡ b → Watches (done_status b) source_old source' sink_old sink'
+    cases true is = finished_by DoneWithRefusals source_old reader reader' source source' sink_old sink sink' number state refused bad (ap Some (sym is)) (λ e. e) (λ e. e) (λ h. cc) (λ h. cc) so over finished
+    cases false is = finished_by Done source_old reader reader' source source' sink_old sink sink' number state refused bad (ap Some (sym is)) (λ e. e) (λ e. e) (λ h. cc) (λ h. cc) so over finished
+
+-- a write failed in the middle of the replies of what waited at the end
+pub Watches-unfinished : (source_old : Supply) (reader reader' : Reading) (source source' : Supply) (sink_old sink sink' : Receipt) (number : ℕ) (state : State) (refused : Bool)
+    → SoFar source_old reader source sink_old sink number state refused → AtEnd source_old reader reader' source source' → FailsToFinish state sink sink'
+    → Watches WriteFault source_old source' sink_old sink'
+Watches-unfinished source_old reader reader' source source' sink_old sink sink' number state refused so over failed =
+    let faults : sink.faults ≡ sink_old.faults = so.adds.faults in
+    record {
+      whole = tt;
+      front = WritesFront-unfinished source_old reader source sink_old sink sink' number state refused so over.none_ahead failed;
+      spent = tt;
+      flushed = λ no. absurd no;
+      source_faults = over.faults;
+      sink_faults = subst (λ n. Rises n sink'.faults) faults failed.fails.faults;
+      taken = Takes-within WriteFault source_old source source' reader reader' so.taken over.counts (λ h. cc) over.within;
       used = λ h. cc;
     }
 
--- all was read and answered, and something was refused
-pub Watches-refused : (source_old : Supply) (reader reader' : Reading) (source source' : Supply) (sink_old sink : Receipt) (number : ℕ) (state : State) (refused : Bool)
-    (result : Result Got ReadStop) → SoFar source_old reader source sink_old sink number state refused → result ≡ Ok End → refused ≡ true
-    → (result ≡ Ok End → IfSome (ahead reader source) (λ bytes. bytes ≡ [])) → (result ≡ Ok End → reader'.ended ≡ true)
-    → FaultsAfter result source.faults source'.faults → CountsOn reader reader' source source' → ((result ≡ Err TooLong) ↔ (reader'.took ≡ 2 ^ 32))
-    → Ends reader reader' source source' → (reader.ended ≡ true → source' ≡ source) → Watches DoneWithRefusals source_old source' sink_old sink
-Watches-refused source_old reader reader' source source' sink_old sink number state refused result so is some end answered faults counts limit ends over =
-    let same : source'.faults ≡ source.faults = subst (λ (r : Result Got ReadStop). FaultsAfter r source.faults source'.faults) is faults in
-    record {
-      whole = subst (λ b. IfSome source_old.left (λ input. WritesAll input sink_old sink b)) some
-          (WritesAll-end source_old reader source sink_old sink number state refused so (end is));
-      front = WritesFront-so_far source_old reader source sink_old sink number state refused so;
-      spent = spent-at_end source_old reader reader' source source' sink_old sink number state refused so ends (answered is) over;
-      flushed = λ _. so.adds.whole;
-      source_faults = same ∙ so.faults;
-      sink_faults = so.adds.faults;
-      taken = Takes-within DoneWithRefusals source_old source source' reader reader' so.taken counts (λ h. cc) (λ h. let long : result ≡ Err TooLong = limit.1 h in cc);
-      used = λ h. cc;
-    }
+-- memory was wanting for these
+pub Watches-no_memory_left : (source_old : Supply) (reader reader' : Reading) (source source' : Supply) (sink_old sink sink' : Receipt) (number : ℕ) (state : State) (refused : Bool)
+    → SoFar source_old reader source sink_old sink number state refused → AtEnd source_old reader reader' source source' → sink' ≡ sink
+    → Watches NoMemory source_old source' sink_old sink'
+Watches-no_memory_left source_old reader reader' source source' sink_old sink sink' number state refused so over same = record {
+  whole = tt;
+  front = subst (λ (r : Receipt). IfSome source_old.left (λ input. WritesFront input sink_old r)) (sym same)
+      (WritesFront-so_far source_old reader source sink_old sink number state refused so);
+  spent = tt;
+  flushed = λ no. absurd no;
+  source_faults = over.faults;
+  sink_faults = ap (λ (r : Receipt). r.faults) same ∙ so.adds.faults;
+  taken = Takes-within NoMemory source_old source source' reader reader' so.taken over.counts (λ h. cc) over.within;
+  used = λ h. cc;
+}

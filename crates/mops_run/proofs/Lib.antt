@@ -1,7 +1,9 @@
 pub mod Receipts
+pub mod Agreement
 pub mod Runs
-pub mod Ordered
-pub mod InOrder
 pub mod Cut
 pub mod SoFar
 pub mod Endings
+pub mod Numbers
+pub mod Steps
+pub mod Existence

@@ -14,22 +14,27 @@ use Rattle.outer_io.specs.declared.line_reader.Got.{Got}
 use Rattle.outer_io.specs.declared.line_reader.Got.TheVariants.{Line, End}
 use Rattle.outer_io.specs.declared.line_reader.ReadStop.{ReadStop}
 use Rattle.outer_io.specs.declared.line_reader.ReadStop.TheVariants.{TooLong}
-use Rattle.miti_text.specs.Observation.{Observation}
-use Rattle.mops_run.specs.Commands.{command_of}
-use Rattle.mops_run.specs.Sky.{State, start, after, put_in_order, stands_before, may_open, may_hold}
-use Rattle.mops_run.specs.Replies.{Replies, is_refusal}
-use Rattle.mops_run.specs.Texts.{text_of, text_of_all}
-use Rattle.mops_run.specs.Output.{Adds}
-use Rattle.mops_run.specs.Watch.{Answers, AnswersAll, after_lines}
-use Rattle.mops_run.specs.Answering.{Answered, FailsToAnswer}
+use Rattle.script_text.specs.Script.{script_line_of}
+use Rattle.window_incr.specs.LinkerState.{LinkerData}
+use Rattle.mops_run.specs.Deliveries.{Delivers}
+use Rattle.mops_run.specs.State.{State, start}
+use Rattle.mops_run.specs.Replies.{Replies, Obeys}
+use Rattle.track_report.specs.Refusals.{is_refusal}
+use Rattle.mops_run.specs.Output.{text_of_all}
+use Rattle.track_report.specs.Texts.{text_of}
+use Rattle.mops_run.specs.Output.{Adds, AddsFront, FailsIn}
+use Rattle.mops_run.specs.Watch.{Answers, AnswersAll}
+use Rattle.mops_run.specs.Answering.{Answered, FailsToAnswer, Finished, FailsToFinish}
 use Rattle.mops_run.specs.Promise.{WritesAll, WritesFront, Takes}
 use Rattle.mops_run.specs.declared.top.Status.{Status}
 use Rattle.mops_run.specs.declared.top.Status.TheVariants.{InputTooLong}
-use Rattle.mops_run.specs.declared.commands.Command.{Command}
-use Rattle.mops_run.specs.declared.commands.Command.TheVariants.{Blank, OpenWindow, ListTracklets, Observe, Unknown}
-use Rattle.mops_run.specs.declared.replies.Reply.{Reply}
-use Rattle.mops_run.proofs.Cut.{command_of-take}
-use Rattle.mops_run.proofs.Runs.{after_lines-append, Answers-append, Answers-only, Answers-some}
+use Rattle.script_text.specs.declared.script.Line.{Line as ScriptLine}
+use Rattle.script_text.specs.declared.script.Line.TheVariants as lines
+use Rattle.script_text.specs.declared.errors.ScriptError.{ScriptError}
+use Rattle.track_report.specs.declared.replies.Reply.{Reply}
+use Rattle.mops_run.proofs.Cut.{script_line_of-take}
+use Rattle.mops_run.proofs.Agreement.{Answers-only, AnswersAll-only}
+use Rattle.mops_run.proofs.Runs.{Answers-append, Answers-split}
 
 -- the lines of an input that is told are those seen and those ahead
 abbrev pub Tells : Option (List ℕ) → Option (List ℕ) → List (List ℕ) → Type 0
@@ -39,10 +44,9 @@ Tells input bytes seen = IfSome input (λ all. IsSomeAnd bytes (λ rest. lines a
 pub record SoFar (source_old : Supply) (reader : Reading) (source : Supply) (sink_old sink : Receipt) (number : ℕ) (state : State) (refused : Bool) : Type 0 where
   pub seen : List (List ℕ)
   pub replies : List Reply
-  pub answers : Answers 1 start seen replies
-  pub state_is : state ≡ after_lines start seen
+  pub answers : Answers 1 start seen replies state
   pub counted : number ≡ length seen
-  pub few : length state.held ≤ number
+  pub few : length state.waiting ≤ number
   pub adds : Adds sink_old sink (text_of_all replies)
   pub refused_is : refused ≡ list_any is_refusal replies
   pub tells : Tells source_old.left (ahead reader source) seen
@@ -58,8 +62,7 @@ pub SoFar-start : (source : Supply) (sink : Receipt) → SoFar source fresh sour
 SoFar-start source sink = record {
   seen = [];
   replies = [];
-  answers = refl;
-  state_is = refl;
+  answers = (refl, refl);
   counted = refl;
   few = omega arith;
   adds = record { bytes = Appends-nil sink.written; whole = inl refl; faults = refl };
@@ -91,37 +94,25 @@ pub record NextLine (reader reader' : Reading) (source source' : Supply) : Type 
 -- one more line of an input that is told; where it isn't, what was handed out stands for it
 tells_more : (input bytes rest : Option (List ℕ)) (seen : List (List ℕ)) (line : List ℕ) (last : Bool) → Tells input bytes seen
     → IfSome bytes (λ xs. IsSomeAnd rest (λ ys. HandsOut xs line ys last))
-    → (content : List ℕ) × (command_of line ≡ command_of content) × Tells input rest (seen ++ content ∷ [])
+    → (content : List ℕ) × (script_line_of line ≡ script_line_of content) × Tells input rest (seen ++ content ∷ [])
 tells_more None bytes rest seen line last tells next = (line, refl, tt)
 tells_more (Some all) None rest seen line last tells next = absurd tells
 tells_more (Some all) (Some xs) None seen line last tells next = absurd next
 tells_more (Some all) (Some xs) (Some ys) seen line last tells next =
     let first : lines xs ≡ next.content ∷ lines ys = next.first in
-    (next.content, ap command_of next.cut ∙ command_of-take next.content, tells ∙ ap (λ ls. seen ++ ls) first ∙ sym (append_assoc seen (next.content ∷ []) (lines ys)))
+    (next.content, ap script_line_of next.cut ∙ script_line_of-take next.content, tells ∙ ap (λ ls. seen ++ ls) first ∙ sym (append_assoc seen (next.content ∷ []) (lines ys)))
 
--- one more detection at most is held after a line
-length-put_in_order : (d : Observation) (held : List Observation) → length (put_in_order d held) ≡ length held + 1
-length-put_in_order d [] = refl
-length-put_in_order d (e ∷ es) =
-    elim (stands_before e d) as (λ b. length (cond b (e ∷ put_in_order d es) (d ∷ e ∷ es)) ≡ suc (length es) + 1) [
-      | true ↦ omega (arith, length-put_in_order d es)
-      | false ↦ omega arith
-    ]
-
-held_more : (state : State) (command : Command) → length (after state command).held ≤ length state.held + 1
-held_more state Blank = omega arith
-held_more state (OpenWindow lo hi) =
-    elim (may_open state lo hi) as (λ b. length (cond b (record state { window = Some (lo, hi) }) state).held ≤ length state.held + 1) [
-      | true ↦ omega arith
-      | false ↦ omega arith
-    ]
-held_more state (ListTracklets night) = omega arith
-held_more state (Observe d) =
-    elim (may_hold state d) as (λ b. length (cond b (record state { held = put_in_order d state.held }) state).held ≤ length state.held + 1) [
-      | true ↦ omega (arith, length-put_in_order d state.held)
-      | false ↦ omega arith
-    ]
-held_more state Unknown = omega arith
+-- one more detection at most waits after a line
+waiting_more : (n : ℕ) (old new : State) (said : Result ScriptLine ScriptError) (given : List Reply) → Replies n old said given new → length new.waiting ≤ length old.waiting + 1
+waiting_more n old new (Ok lines.Blank) given a = omega (arith, ap (λ (s : State). length s.waiting) a.1)
+waiting_more n old new (Ok (lines.Bad error)) given a = omega (arith, ap (λ (s : State). length s.waiting) a.1)
+waiting_more n old new (Ok (lines.Detection d)) given a = omega (arith, ap (λ (s : State). length s.waiting) a.1, length-append old.waiting (d ∷ []))
+waiting_more n old new (Ok (lines.Set name value)) given a = omega (arith, ap length a.none_waits)
+waiting_more n old new (Ok (lines.Window lo hi)) given a = omega (arith, ap length a.none_waits)
+waiting_more n old new (Ok (lines.Tracklets night)) given a = omega (arith, ap length a.none_waits)
+waiting_more n old new (Ok lines.Report) given a = omega (arith, ap length a.none_waits)
+waiting_more n old new (Ok lines.Stats) given a = omega (arith, ap length a.none_waits)
+waiting_more n old new (Err error) given a = omega (arith, ap length a.none_waits)
 
 -- two texts, one behind the other
 pub Adds-then : (old mid new : Receipt) (text more : List ℕ) → Adds old mid text → Adds mid new more → Adds old new (text ++ more)
@@ -139,30 +130,33 @@ pub or_true : (b : Bool) → (b || true) ≡ true
 or_true true = refl
 or_true false = refl
 
+-- the answers so far, and those to one more line
+one_more : (seen : List (List ℕ)) (content line : List ℕ) (number : ℕ) (state state' : State) (so_far given : List Reply) → Answers 1 start seen so_far state → number ≡ length seen
+    → script_line_of line ≡ script_line_of content → Replies (number + 1) state (script_line_of line) given state' → Answers 1 start (seen ++ content ∷ []) (so_far ++ given) state'
+one_more seen content line number state state' so_far given answers counted same replies =
+    let numbered : Replies (1 + length seen) state (script_line_of line) given state' = subst (λ k. Replies k state (script_line_of line) given state') (omega (arith, counted)) replies in
+    let now : Replies (1 + length seen) state (script_line_of content) given state' = subst (λ said. Replies (1 + length seen) state said given state') same numbered in
+    Answers-append 1 start state state' seen (content ∷ []) so_far given answers (given, [], state', now, (refl, refl), sym (append-nil given))
+
 -- what was answered so far, and one more line
 pub SoFar-line : (source_old : Supply) (reader reader' : Reading) (source source' : Supply) (sink_old sink sink' : Receipt) (number : ℕ)
     (state state' : State) (refused bad refused' : Bool)
     → SoFar source_old reader source sink_old sink number state refused → NextLine reader reader' source source'
-    → Answered (number + 1) state reader'.line sink sink' bad → state' ≡ after state (command_of reader'.line) → refused' ≡ (refused || bad)
+    → Answered (number + 1) state reader'.line sink sink' bad state' → refused' ≡ (refused || bad)
     → SoFar source_old reader' source' sink_old sink' (number + 1) state' refused'
-SoFar-line source_old reader reader' source source' sink_old sink sink' number state state' refused bad refused' so next answered state_is refused_is =
+SoFar-line source_old reader reader' source source' sink_old sink sink' number state state' refused bad refused' so next answered refused_is =
     let more = tells_more source_old.left (ahead reader source) (ahead reader' source') so.seen reader'.line reader'.ended so.tells next.line in
-    let command : command_of reader'.line ≡ command_of more.0 = more.1 in
-    let texts : text_of_all (so.replies ++ answered.0) ≡ text_of_all so.replies ++ text_of_all answered.0 = flat_map-append text_of so.replies answered.0 in
-    let held : length (after state (command_of reader'.line)).held ≤ length state.held + 1 = held_more state (command_of reader'.line) in
-    let held' : length state'.held ≤ length state.held + 1 = rw state_is held in
-    let now : Replies (1 + length so.seen) (after_lines start so.seen) (command_of more.0) answered.0 =
-    rw (← so.state_is, ← command) (subst (λ k. Replies k state (command_of reader'.line) answered.0) (omega (arith, so.counted)) answered.1) in
-    let bad_is : bad ≡ list_any is_refusal answered.0 = answered.3 in
+    let texts : text_of_all (so.replies ++ answered.given) ≡ text_of_all so.replies ++ text_of_all answered.given = flat_map-append text_of so.replies answered.given in
+    let waiting : length state'.waiting ≤ length state.waiting + 1 = waiting_more (number + 1) state state' (script_line_of reader'.line) answered.given answered.replies in
+    let bad_is : bad ≡ list_any is_refusal answered.given = answered.says.refused_is in
     record {
       seen = so.seen ++ more.0 ∷ [];
-      replies = so.replies ++ answered.0;
-      answers = Answers-append 1 start so.seen (more.0 ∷ []) so.replies answered.0 so.answers (answered.0, [], now, refl, sym (append-nil answered.0));
-      state_is = state_is ∙ ap (after state) command ∙ ap (λ (s : State). after s (command_of more.0)) so.state_is ∙ sym (after_lines-append start so.seen (more.0 ∷ []));
+      replies = so.replies ++ answered.given;
+      answers = one_more so.seen more.0 reader'.line number state state' so.replies answered.given so.answers so.counted more.1 answered.replies;
       counted = omega (arith, length-append so.seen (more.0 ∷ []), so.counted);
-      few = omega (arith, held', so.few);
-      adds = rw texts (Adds-then sink_old sink sink' (text_of_all so.replies) (text_of_all answered.0) so.adds answered.2);
-      refused_is = refused_is ∙ ap (λ b. b || bad) so.refused_is ∙ ap (λ b. list_any is_refusal so.replies || b) bad_is ∙ sym (list_any-append is_refusal so.replies answered.0);
+      few = omega (arith, waiting, so.few);
+      adds = rw texts (Adds-then sink_old sink sink' (text_of_all so.replies) (text_of_all answered.given) so.adds answered.says.adds);
+      refused_is = refused_is ∙ ap (λ b. b || bad) so.refused_is ∙ ap (λ b. list_any is_refusal so.replies || b) bad_is ∙ sym (list_any-append is_refusal so.replies answered.given);
       tells = more.2;
       passed = omega (arith, so.passed, next.progress);
       taken = risen-then source_old.taken source.taken source'.taken reader.took reader'.took so.taken next.counts.taken next.counts.rises;
@@ -173,13 +167,15 @@ SoFar-line source_old reader reader' source source' sink_old sink sink' number s
     }
 
 -- the replies so far are the front of all replies
-replies_ahead : (seen more all : List (List ℕ)) (so_far replies : List Reply) → all ≡ seen ++ more → Answers 1 start seen so_far → AnswersAll all replies
-    → (later : List Reply) × (replies ≡ so_far ++ later) × Answers (1 + length seen) (after_lines start seen) more later
-replies_ahead seen more all so_far replies parts front whole =
-    let later = Answers-some (1 + length seen) (after_lines start seen) more in
-    let both : Answers 1 start (seen ++ more) (so_far ++ later.0) = Answers-append 1 start seen more so_far later.0 front later.1 in
-    let given : Answers 1 start (seen ++ more) replies = subst (λ ls. Answers 1 start ls replies) parts whole in
-    (later.0, Answers-only 1 start (seen ++ more) replies (so_far ++ later.0) given both, later.1)
+replies_ahead : (seen more all : List (List ℕ)) (so_far given : List Reply) (state : State) → all ≡ seen ++ more → Answers 1 start seen so_far state → AnswersAll all given
+    → (later : List Reply) × (given ≡ so_far ++ later)
+replies_ahead seen more all so_far given state parts front whole =
+    let answers : Answers 1 start (seen ++ more) whole.so_far whole.state = subst (λ ls. Answers 1 start ls whole.so_far whole.state) parts whole.answers in
+    let split = Answers-split 1 start whole.state seen more whole.so_far answers in
+    let same : (split.first ≡ so_far) × (split.mid ≡ state) = Answers-only 1 start seen split.first so_far split.mid state split.before front in (
+      split.second ++ whole.last,
+      whole.given_is ∙ ap (λ r. r ++ whole.last) (split.given_is ∙ ap (λ p. p ++ split.second) same.0) ∙ append_assoc so_far split.second whole.last,
+    )
 
 -- what was written so far is a front of what the whole input asks for
 pub WritesFront-so_far : (source_old : Supply) (reader : Reading) (source : Supply) (sink_old sink : Receipt) (number : ℕ) (state : State) (refused : Bool)
@@ -189,8 +185,8 @@ WritesFront-so_far source_old reader source sink_old sink number state refused s
     front : (input bytes : Option (List ℕ)) → Tells input bytes so.seen → IfSome input (λ all. WritesFront all sink_old sink)
     front None bytes tells = tt
     front (Some all) None tells = absurd tells
-    front (Some all) (Some rest) tells = λ replies whole.
-        let later = replies_ahead so.seen (lines rest) (lines all) so.replies replies tells so.answers whole in
+    front (Some all) (Some rest) tells = λ given whole.
+        let later = replies_ahead so.seen (lines rest) (lines all) so.replies given state tells so.answers whole in
         (text_of_all so.replies, text_of_all later.0, ap text_of_all later.1 ∙ flat_map-append text_of so.replies later.0, so.adds.bytes)
 
 -- texts, of which one is cut
@@ -201,6 +197,17 @@ texts_around before middle behind all front back parts cut =
     ∙ ap (λ t. t ++ text_of_all behind) (flat_map-append text_of before middle ∙ ap (λ t. text_of_all before ++ t) cut)
     ∙ simp append_assoc
 
+-- a front of the texts of some more replies was added behind what was written so far
+front_of : (so_far given later all : List Reply) (old mid new : Receipt) → Adds old mid (text_of_all so_far) → FailsIn mid new (text_of_all given) → all ≡ (so_far ++ given) ++ later
+    → AddsFront old new (text_of_all all)
+front_of so_far given later all old mid new adds fails parts =
+    let part = fails.bytes in (
+      text_of_all so_far ++ part.0,
+      part.1 ++ text_of_all later,
+      texts_around so_far given later all part.0 part.1 parts part.2,
+      Appends-trans old.written mid.written new.written (text_of_all so_far) part.0 adds.bytes part.3,
+    )
+
 -- the same where a write failed in the middle of the replies to one more line
 pub WritesFront-failed : (source_old : Supply) (reader reader' : Reading) (source source' : Supply) (sink_old sink sink' : Receipt) (number : ℕ) (state : State) (refused : Bool)
     → SoFar source_old reader source sink_old sink number state refused → NextLine reader reader' source source'
@@ -208,41 +215,72 @@ pub WritesFront-failed : (source_old : Supply) (reader reader' : Reading) (sourc
 WritesFront-failed source_old reader reader' source source' sink_old sink sink' number state refused so next failed =
     front source_old.left (ahead reader' source') more.2
   where
-    more : (content : List ℕ) × (command_of reader'.line ≡ command_of content) × Tells source_old.left (ahead reader' source') (so.seen ++ content ∷ [])
+    more : (content : List ℕ) × (script_line_of reader'.line ≡ script_line_of content) × Tells source_old.left (ahead reader' source') (so.seen ++ content ∷ [])
     more = tells_more source_old.left (ahead reader source) (ahead reader' source') so.seen reader'.line reader'.ended so.tells next.line
 
-    now : Replies (1 + length so.seen) (after_lines start so.seen) (command_of more.0) failed.0
-    now = rw (← so.state_is, ← more.1) (subst (λ k. Replies k state (command_of reader'.line) failed.0) (omega (arith, so.counted)) failed.1)
-
-    upto : Answers 1 start (so.seen ++ more.0 ∷ []) (so.replies ++ failed.0)
-    upto = Answers-append 1 start so.seen (more.0 ∷ []) so.replies failed.0 so.answers (failed.0, [], now, refl, sym (append-nil failed.0))
+    upto : Answers 1 start (so.seen ++ more.0 ∷ []) (so.replies ++ failed.given) failed.after
+    upto = one_more so.seen more.0 reader'.line number state failed.after so.replies failed.given so.answers so.counted more.1 failed.replies
 
     front : (input bytes : Option (List ℕ)) → Tells input bytes (so.seen ++ more.0 ∷ []) → IfSome input (λ all. WritesFront all sink_old sink')
     front None bytes tells = tt
     front (Some all) None tells = absurd tells
-    front (Some all) (Some rest) tells = λ replies whole.
-        let later = replies_ahead (so.seen ++ more.0 ∷ []) (lines rest) (lines all) (so.replies ++ failed.0) replies tells upto whole in
-        let part = failed.2.bytes in
-        let text : text_of_all replies ≡ (text_of_all so.replies ++ part.0) ++ (part.1 ++ text_of_all later.0) =
-        texts_around so.replies failed.0 later.0 replies part.0 part.1 later.1 part.2 in (
-          text_of_all so.replies ++ part.0,
-          part.1 ++ text_of_all later.0,
-          text,
-          Appends-trans sink_old.written sink.written sink'.written (text_of_all so.replies) part.0 so.adds.bytes part.3,
-        )
+    front (Some all) (Some rest) tells = λ given whole.
+        let later = replies_ahead (so.seen ++ more.0 ∷ []) (lines rest) (lines all) (so.replies ++ failed.given) given failed.after tells upto whole in
+        front_of so.replies failed.given later.0 given sink_old sink sink' so.adds failed.fails later.1
+
+-- the replies to a whole input whose lines were all seen: those so far, and those of what still waits
+answers_all : (all rest : List ℕ) (seen : List (List ℕ)) (so_far last : List Reply) (state : State) (linker : LinkerData) → lines all ≡ seen ++ lines rest → rest ≡ []
+    → Answers 1 start seen so_far state → Delivers state.linker state.waiting last linker → AnswersAll (lines all) (so_far ++ last)
+answers_all all rest seen so_far last state linker tells none answers delivery =
+    let whole : lines all ≡ seen = tells ∙ ap (λ xs. seen ++ lines xs) none ∙ append-nil seen in
+    record {
+      so_far = so_far;
+      state = state;
+      last = last;
+      linker = linker;
+      answers = subst (λ ls. Answers 1 start ls so_far state) (sym whole) answers;
+      delivery = delivery;
+      given_is = refl;
+    }
+
+-- the same where a write failed in the middle of the replies of what waited at the end
+pub WritesFront-unfinished : (source_old : Supply) (reader : Reading) (source : Supply) (sink_old sink sink' : Receipt) (number : ℕ) (state : State) (refused : Bool)
+    → SoFar source_old reader source sink_old sink number state refused → IfSome (ahead reader source) (λ bytes. bytes ≡ [])
+    → FailsToFinish state sink sink' → IfSome source_old.left (λ input. WritesFront input sink_old sink')
+WritesFront-unfinished source_old reader source sink_old sink sink' number state refused so end failed = front source_old.left (ahead reader source) so.tells end
+  where
+    front : (input bytes : Option (List ℕ)) → Tells input bytes so.seen → IfSome bytes (λ xs. xs ≡ []) → IfSome input (λ all. WritesFront all sink_old sink')
+    front None bytes tells none = tt
+    front (Some all) None tells none = absurd tells
+    front (Some all) (Some rest) tells none = λ given whole.
+        let mine : AnswersAll (lines all) (so.replies ++ failed.given) = answers_all all rest so.seen so.replies failed.given state failed.linker tells none so.answers failed.delivery in
+        let same : given ≡ so.replies ++ failed.given = AnswersAll-only (lines all) given (so.replies ++ failed.given) whole mine in
+        front_of so.replies failed.given [] given sink_old sink sink' so.adds failed.fails (same ∙ sym (append-nil (so.replies ++ failed.given)))
 
 -- at the end all of it is written
-pub WritesAll-end : (source_old : Supply) (reader : Reading) (source : Supply) (sink_old sink : Receipt) (number : ℕ) (state : State) (refused : Bool)
+pub WritesAll-end : (source_old : Supply) (reader : Reading) (source : Supply) (sink_old sink sink' : Receipt) (number : ℕ) (state : State) (refused bad : Bool)
     → SoFar source_old reader source sink_old sink number state refused → IfSome (ahead reader source) (λ bytes. bytes ≡ [])
-    → IfSome source_old.left (λ input. WritesAll input sink_old sink refused)
-WritesAll-end source_old reader source sink_old sink number state refused so end = whole source_old.left (ahead reader source) so.tells end
+    → Finished state sink sink' bad → IfSome source_old.left (λ input. WritesAll input sink_old sink' (refused || bad))
+WritesAll-end source_old reader source sink_old sink sink' number state refused bad so end finished = whole source_old.left (ahead reader source) so.tells end
   where
-    whole : (input bytes : Option (List ℕ)) → Tells input bytes so.seen → IfSome bytes (λ xs. xs ≡ []) → IfSome input (λ all. WritesAll all sink_old sink refused)
+    whole : (input bytes : Option (List ℕ)) → Tells input bytes so.seen → IfSome bytes (λ xs. xs ≡ []) → IfSome input (λ all. WritesAll all sink_old sink' (refused || bad))
     whole None bytes tells none = tt
     whole (Some all) None tells none = absurd tells
     whole (Some all) (Some rest) tells none =
-        let seen : lines all ≡ so.seen = tells ∙ ap (λ xs. so.seen ++ lines xs) none ∙ append-nil so.seen in
-        (so.replies, subst (λ ls. Answers 1 start ls so.replies) (sym seen) so.answers, so.adds, so.refused_is)
+        let texts : text_of_all (so.replies ++ finished.given) ≡ text_of_all so.replies ++ text_of_all finished.given = flat_map-append text_of so.replies finished.given in
+        let bad_is : bad ≡ list_any is_refusal finished.given = finished.says.refused_is in (
+          so.replies ++ finished.given,
+          answers_all all rest so.seen so.replies finished.given state finished.linker tells none so.answers finished.delivery,
+          rw texts (Adds-then sink_old sink sink' (text_of_all so.replies) (text_of_all finished.given) so.adds finished.says.adds),
+          ap (λ b. b || bad) so.refused_is ∙ ap (λ b. list_any is_refusal so.replies || b) bad_is ∙ sym (list_any-append is_refusal so.replies finished.given),
+        )
+
+-- the whole is a front of itself
+pub WritesFront-whole : (left : Option (List ℕ)) (old new : Receipt) (refused : Bool) → IfSome left (λ input. WritesAll input old new refused) → IfSome left (λ input. WritesFront input old new)
+WritesFront-whole None old new refused whole = tt
+WritesFront-whole (Some input) old new refused whole = λ given answers.
+    let same : given ≡ whole.0 = AnswersAll-only (lines input) given whole.0 answers whole.1 in
+    (text_of_all whole.0, [], ap text_of_all same ∙ sym (append-nil (text_of_all whole.0)), whole.2.bytes)
 
 -- the step of a reader that answered a line
 pub NextLine-from : (reader reader' : Reading) (source source' : Supply) (result : Result Got ReadStop) → result ≡ Ok Line

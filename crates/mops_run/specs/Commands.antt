@@ -1,62 +1,44 @@
--- What a line of the input asks for.
-use Rattle.std.specs.Prelude.{ℕ, ℤ, ◌==◌, Bool, false, nat_eq, nat_lt, if◌then◌else◌, List, [], ◌∷◌, length, codes, Option, Some, None, Result, Ok, Err}
-use Rattle.std.specs.Cmp.Lexicographic.{pointwise}
-use Rattle.miti_text.specs.Words.{words}
-use Rattle.miti_text.specs.Numerals.{number_of}
-use Rattle.miti_text.specs.Observation.{Observation}
-use Rattle.miti_text.specs.Lines.{detection_of}
-use Rattle.miti_text.specs.declared.errors.LineError.{LineError}
-use Rattle.mops_run.specs.declared.commands.Command.{Command}
-use Rattle.mops_run.specs.declared.commands.Command.TheVariants.{Blank, OpenWindow, ListTracklets, Observe, Unknown}
+-- What the linker does at a command, and its reply.
+use Rattle.std.specs.Prelude.{◌≡◌, ℕ, ◌^◌, ℤ, pos, neg_ℤ, ◌<ℤ◌, Bool, true, false, MatchOption, MatchResult, Result, Ok, Err}
+use Rattle.exposure_log.specs.Held.{window_refusal, moved}
+use Rattle.script_text.specs.declared.script.Line.{Line}
+use Rattle.script_text.specs.declared.script.Line.TheVariants as lines
+use Rattle.script_text.specs.declared.errors.ScriptError.{ScriptError}
+use Rattle.sky_units.specs.declared.reports.Report.{Report}
+use Rattle.sky_units.specs.declared.statistics.Stats.{Stats}
+use Rattle.window_incr.specs.LinkerState.{LinkerData, after_setting}
+use Rattle.window_incr.specs.Answers.{tracklet_ids, IsReport, AreStats}
+use Rattle.track_report.specs.declared.replies.Reply.{Reply}
+use Rattle.track_report.specs.declared.replies.Reply.TheVariants as replies
 
--- the line begins with this byte
-abbrev pub begins_with : ℕ → List ℕ → Bool
-begins_with mark [] = false
-begins_with mark (b ∷ bs) = b == mark
+-- a line that is a command, well formed or not
+abbrev pub is_command : Result Line ScriptError → Bool
+is_command (Ok lines.Blank) = false
+is_command (Ok (lines.Bad error)) = false
+is_command (Ok (lines.Detection d)) = false
+is_command said = true
 
--- a window of two numbers
-abbrev pub window_of : Option ℤ → Option ℤ → Command
-window_of (Some lo) (Some hi) = OpenWindow lo hi
-window_of _ _ = Unknown
+-- the reply to the command or malformed command of a line's number, and the linker after it; other lines are no commands
+abbrev pub Commands : ℕ → LinkerData → Result Line ScriptError → Reply → LinkerData → Type 0
+Commands number old (Ok (lines.Set name value)) reply new =
+    MatchResult (after_setting name value old) (λ changed. (new ≡ changed) × (reply ≡ replies.Set name value)) (λ error. (new ≡ old) × (reply ≡ replies.SetRefused error))
+Commands number old (Ok (lines.Window lo hi)) reply new =
+    MatchOption (window_refusal old.log.window lo hi)
+    ((new ≡ record old { log = moved old.log lo hi }) × (reply ≡ replies.Window lo hi))
+    (λ error. (new ≡ old) × (reply ≡ replies.WindowRefused error))
+Commands number old (Ok (lines.Tracklets night)) reply new = (new ≡ old) × (reply ≡ replies.Tracklets night (tracklet_ids old night))
+Commands number old (Ok lines.Report) reply new = (new ≡ old) × (report : Report) × IsReport old report × (reply ≡ replies.Report report)
+Commands number old (Ok lines.Stats) reply new = (new ≡ old) × (stats : Stats) × AreStats old stats × (reply ≡ replies.Stats stats)
+Commands number old (Err error) reply new = (new ≡ old) × (reply ≡ replies.Script number error)
+Commands number old (Ok lines.Blank) reply new = ⊥
+Commands number old (Ok (lines.Bad error)) reply new = ⊥
+Commands number old (Ok (lines.Detection d)) reply new = ⊥
 
--- the tracklets of the night of a number
-abbrev pub tracklets_of : Option ℤ → Command
-tracklets_of (Some night) = ListTracklets night
-tracklets_of None = Unknown
+-- less than 10^18 in absolute value
+abbrev pub IsSmall : ℤ → Type 0
+IsSmall z = (neg_ℤ (pos (10 ^ 18)) <ℤ z) × (z <ℤ pos (10 ^ 18))
 
--- `!window` and the words behind it: two numbers
-abbrev pub window_command : List (List ℕ) → Command
-window_command (lo ∷ hi ∷ []) = window_of (number_of lo) (number_of hi)
-window_command _ = Unknown
-
--- `!tracklets` and the words behind it: one number
-abbrev pub tracklets_command : List (List ℕ) → Command
-tracklets_command (night ∷ []) = tracklets_of (number_of night)
-tracklets_command _ = Unknown
-
--- the words of a line that begins with `!`
-abbrev pub script_command : List (List ℕ) → Command
-script_command [] = Unknown
-script_command (name ∷ rest) =
-    if pointwise nat_eq name (codes "!window") then window_command rest
-    else if pointwise nat_eq name (codes "!tracklets") then tracklets_command rest
-    else Unknown
-
--- a detection, or a line that is none
-abbrev pub observation : Result Observation LineError → Command
-observation (Ok detection) = Observe detection
-observation (Err error) = Unknown
-
--- a line that is no comment, by its words: a blank line has none
-abbrev pub line_command : List (List ℕ) → List ℕ → Command
-line_command [] line = Blank
-line_command (word ∷ rest) line =
-    if begins_with 33 line then script_command (word ∷ rest) else observation (detection_of line)
-
--- a line: a comment, of any length and bytes; else at most 1,024 bytes that are blank, a command where they begin with `!`,
--- or a detection line
-abbrev pub command_of : List ℕ → Command
-command_of line =
-    if begins_with 35 line then Blank
-    else if nat_lt 1024 (length line) then Unknown
-    else line_command (words line) line
+-- the numbers of a window's command have at most eighteen digits
+abbrev pub HasSmallWindow : Result Line ScriptError → Type 0
+HasSmallWindow (Ok (lines.Window lo hi)) = IsSmall lo × IsSmall hi
+HasSmallWindow said = Unit {0}

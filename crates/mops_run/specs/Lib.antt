@@ -1,7 +1,7 @@
+pub mod State
+pub mod Deliveries
 pub mod Commands
-pub mod Sky
 pub mod Replies
-pub mod Texts
 pub mod Answering
 pub mod Watch
 pub mod Promise

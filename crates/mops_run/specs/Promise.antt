@@ -5,11 +5,11 @@ use Rattle.std.specs.Str.Lines.{lines}
 use Rattle.std.specs.Io.KnownBytes.{IsAtEnd}
 use Rattle.outer_io.specs.Supply.{Supply, Rises, risen}
 use Rattle.outer_io.specs.Receipt.{Receipt, IsFlushed}
-use Rattle.mops_run.specs.Replies.{is_refusal}
-use Rattle.mops_run.specs.Texts.{text_of_all}
+use Rattle.track_report.specs.Refusals.{is_refusal}
+use Rattle.mops_run.specs.Output.{text_of_all}
 use Rattle.mops_run.specs.Output.{Adds, AddsFront}
 use Rattle.mops_run.specs.Watch.{AnswersAll}
-use Rattle.mops_run.specs.declared.replies.Reply.{Reply}
+use Rattle.track_report.specs.declared.replies.Reply.{Reply}
 use Rattle.mops_run.specs.declared.top.Status.{Status}
 use Rattle.mops_run.specs.declared.top.Status.TheVariants.{Done, DoneWithRefusals, Usage, ReadFault, WriteFault, NoMemory, InputTooLong}
 
@@ -26,6 +26,11 @@ refused_by ReadFault = None
 refused_by WriteFault = None
 refused_by NoMemory = None
 refused_by InputTooLong = None
+
+-- how a run ends that is done: with refusals or without
+abbrev pub done_status : Bool → Status
+done_status true = DoneWithRefusals
+done_status false = Done
 
 -- the texts of the replies to all lines of the input were added, and one of these is a refusal or none is
 abbrev pub WritesAll : List ℕ → Receipt → Receipt → Bool → Type 0

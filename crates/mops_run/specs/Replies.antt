@@ -1,24 +1,28 @@
--- The replies to a line.
-use Rattle.std.specs.Prelude.{◌≡◌, ℕ, Bool, true, false, if◌then◌else◌, List, [], ◌∷◌}
-use Rattle.mops_run.specs.Sky.{State, may_open, may_hold, tracklets_in}
-use Rattle.mops_run.specs.declared.commands.Command.{Command}
-use Rattle.mops_run.specs.declared.commands.Command.TheVariants.{Blank, OpenWindow, ListTracklets, Observe, Unknown}
-use Rattle.mops_run.specs.declared.replies.Reply.{Reply}
-use Rattle.mops_run.specs.declared.replies.Reply.TheVariants.{NotUnderstood, Window, Tracklets, Added}
+-- The replies to a line, and the state after it.
+use Rattle.std.specs.Prelude.{◌≡◌, ℕ, List, [], ◌∷◌, ◌++◌, Result, Ok}
+use Rattle.script_text.specs.declared.script.Line.{Line}
+use Rattle.script_text.specs.declared.script.Line.TheVariants as lines
+use Rattle.script_text.specs.declared.errors.ScriptError.{ScriptError}
+use Rattle.track_report.specs.declared.replies.Reply.{Reply}
+use Rattle.track_report.specs.declared.replies.Reply.TheVariants as replies
+use Rattle.window_incr.specs.LinkerState.{LinkerData}
+use Rattle.mops_run.specs.State.{State}
+use Rattle.mops_run.specs.Deliveries.{Delivers}
+use Rattle.mops_run.specs.Commands.{Commands}
 
--- the replies to the line of a number, in a state, are these
-abbrev pub Replies : ℕ → State → Command → List Reply → Type 0
-Replies line state Blank replies = replies ≡ []
-Replies line state (OpenWindow lo hi) replies =
-    replies ≡ (if may_open state lo hi then Window lo hi else NotUnderstood line) ∷ []
-Replies line state (ListTracklets night) replies = replies ≡ Tracklets night (tracklets_in state night) ∷ []
-Replies line state (Observe d) replies =
-    replies ≡ (if may_hold state d then Added d.epoch d.site 1 else NotUnderstood line) ∷ []
-Replies line state Unknown replies = replies ≡ NotUnderstood line ∷ []
+-- what waits is delivered, and then the command has its own reply
+pub record Obeys (number : ℕ) (old : State) (command : Result Line ScriptError) (given : List Reply) (new : State) : Type 0 where
+  pub delivered : List Reply
+  pub own : Reply
+  pub between : LinkerData
+  pub delivery : Delivers old.linker old.waiting delivered between
+  pub obeyed : Commands number between command own new.linker
+  pub none_waits : new.waiting ≡ []
+  pub given_is : given ≡ delivered ++ own ∷ []
 
--- a reply is a refusal
-abbrev pub is_refusal : Reply → Bool
-is_refusal (NotUnderstood line) = true
-is_refusal (Window lo hi) = false
-is_refusal (Tracklets night tracklets) = false
-is_refusal (Added epoch site count) = false
+-- a blank line gives nothing; a detection joins those that wait; a refused detection line has its reply at once; a command is obeyed
+abbrev pub Replies : ℕ → State → Result Line ScriptError → List Reply → State → Type 0
+Replies number old (Ok lines.Blank) given new = (given ≡ []) × (new ≡ old)
+Replies number old (Ok (lines.Detection d)) given new = (given ≡ []) × (new ≡ record old { waiting = old.waiting ++ d ∷ [] })
+Replies number old (Ok (lines.Bad error)) given new = (given ≡ replies.Line number error ∷ []) × (new ≡ old)
+Replies number old command given new = Obeys number old command given new

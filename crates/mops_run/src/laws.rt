@@ -1,5 +1,7 @@
-//! Laws over the definitions alone, each the contract of a function with nothing to do.
+//! Laws over the definitions alone, each the contract of a function that does nothing else.
 ghost use Rattle.mops_run.specs.Watch.{RepliesAreUnique, RepliesExist};
+
+use plain_tracks::some_report_list;
 
 /// The lines of an input have only one list of replies.
 pub fn replies_are_unique()
@@ -9,4 +11,6 @@ pub fn replies_are_unique()
 /// The lines of an input have a list of replies.
 pub fn replies_exist()
     ensures { RepliesExist }
-{}
+{
+    some_report_list();
+}

@@ -9,11 +9,10 @@ use std::rt::Env;
 use std::{env, io};
 use top::{Status, run};
 
-mod commands;
+mod commanding;
+mod delivering;
 mod laws;
 mod output;
-mod replies;
-mod state;
 #[cfg(test)]
 mod tests;
 mod top;

@@ -1,193 +1,698 @@
+//! Whole runs of the program: scripts, with the replies and the status that are wanted.
 use crate::laws::{replies_are_unique, replies_exist};
 use crate::top::{Status, run};
-use outer_io::{MemSink, MemSource, SureSink, SureSource};
+use outer_io::{MemSink, MemSource, Sink, Source, SureSink, SureSource};
 use sky_units::{Tally, Word};
 use std::alloc::Global;
 use std::process::Abort;
 use std::test::Fail;
 
-const ONE_NIGHT: &[u8] = b"!window 59000 59015\n\
-a1 59000.250000 10.000000 5.000000 20.0 568 obj1\n\
-a2 59000.270000 10.002000 5.000000 20.0 568 obj1\n\
-!tracklets 59000\n\
-!report\n";
+const WINDOW: &str = "!window 59000 59015\n";
 
-const ONE_NIGHT_REPLIES: &[u8] = b"window 59000 59015\n\
-exposure 59000250000 568 accepted 1\n\
+const WINDOW_SET: &str = "window 59000 59015\n";
+
+/// Two detections of one object in each of three nights.
+const SIX_LINES: [&str; 6] = [
+    "a1 59000.250000 10.000000 5.000000 20.0 568 obj1\n",
+    "a2 59000.270000 10.002000 5.000000 20.0 568 obj1\n",
+    "b1 59001.250000 10.100000 5.000000 20.0 568 obj1\n",
+    "b2 59001.270000 10.102000 5.000000 20.0 568 obj1\n",
+    "c1 59002.250000 10.200000 5.000000 20.0 568 obj1\n",
+    "c2 59002.270000 10.202000 5.000000 20.0 568 obj1\n",
+];
+
+const SIX_ACCEPTED: &str = "exposure 59000250000 568 accepted 1\n\
 exposure 59000270000 568 accepted 1\n\
-tracklets 59000 1\n\
-tracklet a1 a2\n\
-line 5 refused command\n";
+exposure 59001250000 568 accepted 1\n\
+exposure 59001270000 568 accepted 1\n\
+exposure 59002250000 568 accepted 1\n\
+exposure 59002270000 568 accepted 1\n";
 
-/// A list of one word.
-fn one_word(alloc: Global, word: &[u8]) -> Result<Vec<Word>, Fail> {
-    let mut words = Vec::new(alloc);
-    words.push(Word::new(alloc, word)?)?;
-    Ok(words)
+const ONE_TRACK: &str = "report 59000 59015 1\n\
+track 1 3 6\n\
+ids a1 a2 b1 b2 c1 c2\n";
+
+/// The bytes of some texts, one after another.
+fn joined(alloc: Global, parts: &[&str]) -> Result<Vec<u8>, Fail> {
+    let mut bytes = Vec::new(alloc);
+    for part in parts {
+        bytes.extend_from_slice(part.as_bytes())?;
+    }
+    Ok(bytes)
 }
 
-/// Watches `input` in pieces, with room for `room` bytes of replies, and compares.
+/// How a run on some words ends.
+fn run_on<I: Source, O: Sink>(
+    alloc: Global,
+    list: &[&str],
+    source: &mut I,
+    sink: &mut O,
+) -> Result<Status, Fail> {
+    let mut words = Vec::new(alloc);
+    for word in list {
+        words.push(Word::new(alloc, word.as_bytes())?)?;
+    }
+    let mut tally = Tally::zero();
+    Ok(run(alloc, words.as_slice(), source, sink, &mut tally))
+}
+
+/// Watches a script in pieces of so many bytes, and compares. All that is written is flushed.
+fn expect_in_pieces(
+    rt: &(impl Abort + AllocGlobal),
+    piece: usize,
+    script: &[&str],
+    status: Status,
+    replies: &[&str],
+) -> Result<(), Fail> {
+    assert!(rt; 0 < piece);
+    let alloc = rt.alloc();
+    let replies = joined(alloc, replies)?;
+    let mut source = MemSource::new(joined(alloc, script)?, piece, Vec::new(alloc));
+    let mut sink = MemSink::new(alloc, replies.len(), piece, Vec::new(alloc))?;
+    let ended = run_on(alloc, &["watch"], &mut source, &mut sink)?;
+    assert_eq!(rt; sink.bytes(), replies.as_slice());
+    assert_eq!(rt; sink.flushed(), replies.len());
+    assert_eq!(rt; ended, status);
+    Ok(())
+}
+
+/// Watches a script in pieces of several sizes, and compares.
 fn expect_watch(
     rt: &(impl Abort + AllocGlobal),
-    input: &[u8],
+    script: &[&str],
     status: Status,
-    replies: &[u8],
+    replies: &[&str],
 ) -> Result<(), Fail> {
-    let words = one_word(rt.alloc(), b"watch")?;
     for piece in [1_usize, 3, 16, 4096] {
-        assert!(rt; 0 < piece);
-        let bytes = Vec::from_slice(rt.alloc(), input)?;
-        let mut source = MemSource::new(bytes, piece, Vec::new(rt.alloc()));
-        let mut sink = MemSink::new(rt.alloc(), 4096, piece, Vec::new(rt.alloc()))?;
-        let mut tally = Tally::zero();
-        let ended = run(
-            rt.alloc(),
-            words.as_slice(),
-            &mut source,
-            &mut sink,
-            &mut tally,
-        );
-        assert_eq!(rt; ended, status);
-        assert_eq!(rt; sink.bytes(), replies);
-        assert_eq!(rt; sink.flushed(), replies.len());
+        expect_in_pieces(rt, piece, script, status, replies)?;
     }
     Ok(())
 }
 
+/// The lines of two detections in each of three nights, at these six right ascensions.
+fn six_lines_at(alloc: Global, positions: [&str; 6]) -> Result<String, Fail> {
+    let [a1, a2, b1, b2, c1, c2] = positions;
+    let mut text = String::new(alloc);
+    for (id, epoch, ra) in [
+        ("a1", "59000.250000", a1),
+        ("a2", "59000.270000", a2),
+        ("b1", "59001.250000", b1),
+        ("b2", "59001.270000", b2),
+        ("c1", "59002.250000", c1),
+        ("c2", "59002.270000", c2),
+    ] {
+        let line = format!(in alloc; "{id} {epoch} {ra} 5.000000 20.0 568 obj1\n")?;
+        text.push_str(line.as_str())?;
+    }
+    Ok(text)
+}
+
 #[test]
-fn lines_and_their_replies(rt: HostRuntime) -> Result<(), Fail> {
-    expect_watch(&rt, ONE_NIGHT, Status::DoneWithRefusals, ONE_NIGHT_REPLIES)?;
-    // Empty input, and lines that say nothing.
-    expect_watch(&rt, b"", Status::Done, b"")?;
-    expect_watch(&rt, b"\n \t\r\n# a \x01 comment\n#", Status::Done, b"")?;
-    // A lone carriage return, a foreign byte, an unended last line.
+fn empty_input(rt: HostRuntime) -> Result<(), Fail> {
+    expect_watch(&rt, &[], Status::Done, &[])?;
+    let nothing_said = ["\n \t\r\n", "# a \u{1} comment\n", "#"];
+    expect_watch(&rt, &nothing_said, Status::Done, &[])
+}
+
+#[test]
+fn three_nights(rt: HostRuntime) -> Result<(), Fail> {
+    let [a1, a2, b1, b2, c1, c2] = SIX_LINES;
     expect_watch(
         &rt,
-        b"\r",
-        Status::DoneWithRefusals,
-        b"line 1 refused command\n",
-    )?;
-    expect_watch(
-        &rt,
-        b"\r\n\x80\n",
-        Status::DoneWithRefusals,
-        b"line 2 refused command\n",
-    )?;
-    expect_watch(&rt, b"!window 3 5", Status::Done, b"window 3 5\n")?;
-    // Numbers of windows: the order, the width, a second one.
-    expect_watch(
-        &rt,
-        b"!window 5 4\n!window 0 16\n!window -1 14\r\n!window 3 5\n!tracklets -0\n!window 1\n",
-        Status::DoneWithRefusals,
-        b"line 1 refused command\nline 2 refused command\nwindow -1 14\nline 4 refused command\n\
-tracklets 0 0\nline 6 refused command\n",
+        &[WINDOW, a1, a2, b1, b2, c1, c2, "!report\n"],
+        Status::Done,
+        &[WINDOW_SET, SIX_ACCEPTED, ONE_TRACK],
     )
 }
 
-/// Watches the night of one pair in pieces, where the read of that number fails: it ends there, and what came
-/// before is answered.
-fn expect_read_fault(
+#[test]
+fn across_ra_zero(rt: HostRuntime) -> Result<(), Fail> {
+    let positions = [
+        "359.990000",
+        "359.992000",
+        "0.090000",
+        "0.092000",
+        "0.190000",
+        "0.192000",
+    ];
+    let lines = six_lines_at(rt.alloc(), positions)?;
+    expect_watch(
+        &rt,
+        &[WINDOW, lines.as_str(), "!report\n"],
+        Status::Done,
+        &[WINDOW_SET, SIX_ACCEPTED, ONE_TRACK],
+    )
+}
+
+#[test]
+fn two_nights_are_no_track(rt: HostRuntime) -> Result<(), Fail> {
+    let [a1, a2, b1, b2, ..] = SIX_LINES;
+    expect_watch(
+        &rt,
+        &[WINDOW, a1, a2, b1, b2, "!report\n"],
+        Status::Done,
+        &[
+            WINDOW_SET,
+            "exposure 59000250000 568 accepted 1\n",
+            "exposure 59000270000 568 accepted 1\n",
+            "exposure 59001250000 568 accepted 1\n",
+            "exposure 59001270000 568 accepted 1\n",
+            "report 59000 59015 0\n",
+        ],
+    )
+}
+
+#[test]
+fn straight_lines_at_the_tolerance(rt: HostRuntime) -> Result<(), Fail> {
+    let reports = [
+        ("10.100600", "10.102600", ONE_TRACK),
+        ("10.100601", "10.102601", "report 59000 59015 0\n"),
+    ];
+    for (b1, b2, report) in reports {
+        let positions = ["10.000000", "10.002000", b1, b2, "10.200000", "10.202000"];
+        let lines = six_lines_at(rt.alloc(), positions)?;
+        expect_watch(
+            &rt,
+            &["!set acc_ra 0\n", WINDOW, lines.as_str(), "!report\n"],
+            Status::Done,
+            &["set acc_ra 0\n", WINDOW_SET, SIX_ACCEPTED, report],
+        )?;
+    }
+    Ok(())
+}
+
+#[test]
+fn reverse_order(rt: HostRuntime) -> Result<(), Fail> {
+    let [a1, a2, b1, b2, c1, c2] = SIX_LINES;
+    let stats = "!stats\n";
+    expect_watch(
+        &rt,
+        &[
+            WINDOW,
+            c2,
+            stats,
+            c1,
+            stats,
+            b2,
+            stats,
+            b1,
+            stats,
+            a2,
+            stats,
+            a1,
+            stats,
+            "!report\n",
+        ],
+        Status::Done,
+        &[
+            WINDOW_SET,
+            "exposure 59002270000 568 accepted 1\nstats 1 1 0 0\n",
+            "exposure 59002250000 568 accepted 1\nstats 2 2 1 0\n",
+            "exposure 59001270000 568 accepted 1\nstats 3 3 1 0\n",
+            "exposure 59001250000 568 accepted 1\nstats 4 4 2 0\n",
+            "exposure 59000270000 568 accepted 1\nstats 5 5 2 0\n",
+            "exposure 59000250000 568 accepted 1\nstats 6 6 3 1\n",
+            ONE_TRACK,
+        ],
+    )
+}
+
+/// Watches these lines under a window, with `between` behind each of them, and then a report. The
+/// replies must end with that of `ONE_TRACK`.
+fn expect_one_track(
     rt: &(impl Abort + AllocGlobal),
-    piece: usize,
-    failing: u64,
+    lines: [&str; 6],
+    between: &str,
 ) -> Result<(), Fail> {
-    assert!(rt; 0 < piece);
-    let words = one_word(rt.alloc(), b"watch")?;
-    let bytes = Vec::from_slice(rt.alloc(), ONE_NIGHT)?;
-    let mut source = MemSource::new(bytes, piece, vec![in rt.alloc(); failing]?);
-    let mut sink = MemSink::new(rt.alloc(), 4096, 8, Vec::new(rt.alloc()))?;
-    let mut tally = Tally::zero();
-    let status = run(
-        rt.alloc(),
-        words.as_slice(),
-        &mut source,
-        &mut sink,
-        &mut tally,
-    );
-    // The input comes in so many pieces, and the end in one more call.
-    let fails = failing <= ONE_NIGHT.len().div_ceil(piece) as u64;
-    assert_eq!(rt; status == Status::ReadFault, fails, "{piece} {failing}");
-    assert!(rt;
-        ONE_NIGHT_REPLIES.starts_with(sink.bytes()),
-        "{piece} {failing}"
-    );
-    assert_eq!(rt; sink.flushed(), sink.bytes().len());
-    if piece == 16 && failing == 2 {
-        // Two pieces hold the first line whole.
-        assert_eq!(rt; sink.bytes(), b"window 59000 59015\n".as_slice());
+    let alloc = rt.alloc();
+    let mut script = joined(alloc, &[WINDOW])?;
+    for line in lines {
+        script.extend_from_slice(line.as_bytes())?;
+        script.extend_from_slice(between.as_bytes())?;
+    }
+    script.extend_from_slice(b"!report\n")?;
+    let mut source = SureSource::new(script);
+    let mut sink = MemSink::new(alloc, 4096, 4096, Vec::new(alloc))?;
+    let status = run_on(alloc, &["watch"], &mut source, &mut sink)?;
+    assert_eq!(rt; status, Status::Done);
+    assert!(rt; sink.bytes().ends_with(ONE_TRACK.as_bytes()));
+    Ok(())
+}
+
+#[test]
+fn every_order_gives_the_same_report(rt: HostRuntime) -> Result<(), Fail> {
+    let [a1, a2, b1, b2, c1, c2] = SIX_LINES;
+    let orders = [
+        [a1, a2, b1, b2, c1, c2],
+        [c2, c1, b2, b1, a2, a1],
+        [b1, a1, c1, a2, c2, b2],
+        [a2, c2, a1, b1, b2, c1],
+        [c1, b1, a1, c2, a2, b2],
+        [b2, c1, a2, b1, a1, c2],
+    ];
+    for order in orders {
+        // One delivery; and one of each exposure.
+        expect_one_track(&rt, order, "")?;
+        expect_one_track(&rt, order, "!stats\n")?;
     }
     Ok(())
 }
 
 #[test]
-fn faults_in_the_middle(rt: HostRuntime) -> Result<(), Fail> {
-    for piece in [1_usize, 3, 16, 4096] {
-        // The input has fewer bytes than that, so the last runs of each size end without a fault.
-        for failing in 0..160_u64 {
-            expect_read_fault(&rt, piece, failing)?;
+fn window_move_keeps_the_rest(rt: HostRuntime) -> Result<(), Fail> {
+    let [a1, a2, b1, b2, c1, c2] = SIX_LINES;
+    expect_watch(
+        &rt,
+        &[
+            WINDOW,
+            a1,
+            a2,
+            b1,
+            b2,
+            c1,
+            c2,
+            "d1 59003.250000 10.300000 5.000000 20.0 568 obj1\n",
+            "d2 59003.270000 10.302000 5.000000 20.0 568 obj1\n",
+            "!report\n",
+            "!window 59001 59016\n",
+            "!report\n",
+        ],
+        Status::Done,
+        &[
+            WINDOW_SET,
+            SIX_ACCEPTED,
+            "exposure 59003250000 568 accepted 1\n",
+            "exposure 59003270000 568 accepted 1\n",
+            "report 59000 59015 1\ntrack 1 4 8\nids a1 a2 b1 b2 c1 c2 d1 d2\n",
+            "window 59001 59016\n",
+            "report 59001 59016 1\ntrack 1 3 6\nids b1 b2 c1 c2 d1 d2\n",
+        ],
+    )
+}
+
+/// Six objects, a degree apart, with two detections in each of three nights; and their report.
+fn six_objects(alloc: Global) -> Result<(Vec<u8>, Vec<u8>), Fail> {
+    let mut lines = Vec::from_slice(alloc, WINDOW.as_bytes())?;
+    let mut report = Vec::from_slice(alloc, b"report 59000 59015 6\n")?;
+    for object in 0..6_u32 {
+        let head = format!(in alloc; "track {} 3 6\nids", object + 1)?;
+        report.extend_from_slice(head.as_bytes())?;
+        for night in 0..3_u32 {
+            for (exposure, epoch, place) in [(0_u32, "25", "0"), (1, "27", "2")] {
+                let id = format!(in alloc; "o{object}n{night}e{exposure}")?;
+                let line = format!(in alloc;
+                    "{id} 5900{night}.{epoch} 1{object}.{night}0{place} 5 20 50{object} obj{object}\n"
+                )?;
+                lines.extend_from_slice(line.as_bytes())?;
+                report.push(b' ')?;
+                report.extend_from_slice(id.as_bytes())?;
+            }
         }
+        report.push(b'\n')?;
     }
+    lines.extend_from_slice(b"!report\n")?;
+    Ok((lines, report))
+}
+
+#[test]
+fn twelve_detections_in_each_of_three_nights(rt: HostRuntime) -> Result<(), Fail> {
+    let (script, report) = six_objects(rt.alloc())?;
+    let mut source = SureSource::new(script);
+    let mut sink = MemSink::new(rt.alloc(), 4096, 4096, Vec::new(rt.alloc()))?;
+    let status = run_on(rt.alloc(), &["watch"], &mut source, &mut sink)?;
+    assert_eq!(rt; status, Status::Done);
+    assert!(rt; sink.bytes().ends_with(report.as_slice()));
     Ok(())
 }
 
 #[test]
-fn writes_that_fail_and_room_that_ends(rt: HostRuntime) -> Result<(), Fail> {
-    let words = one_word(rt.alloc(), b"watch")?;
-    for room in 0..=ONE_NIGHT_REPLIES.len() {
-        for piece in [1_usize, 8] {
-            assert!(rt; 0 < piece);
-            let mut source = SureSource::new(Vec::from_slice(rt.alloc(), ONE_NIGHT)?);
-            let mut sink = MemSink::new(rt.alloc(), room, piece, Vec::new(rt.alloc()))?;
-            let mut tally = Tally::zero();
-            let status = run(
-                rt.alloc(),
-                words.as_slice(),
-                &mut source,
-                &mut sink,
-                &mut tally,
-            );
-            let whole = room == ONE_NIGHT_REPLIES.len();
-            let wanted = if whole {
-                Status::DoneWithRefusals
-            } else {
-                Status::WriteFault
-            };
-            assert_eq!(rt; status, wanted, "{room}");
-            assert_eq!(rt; sink.bytes().len(), room);
-            assert!(rt; ONE_NIGHT_REPLIES.starts_with(sink.bytes()), "{room}");
-        }
+fn pairs_of_a_night(rt: HostRuntime) -> Result<(), Fail> {
+    let detections = "p1 59000.25 10.000000 5 20 568 o\n\
+p2 59000.26 10.001000 5 20 568 o\n\
+p3 59000.27 10.002500 5 20 568 o\n\
+p4 59000.28 10.003000 5 20 568 o\n";
+    expect_watch(
+        &rt,
+        &[
+            "!set stages 1\n",
+            "!window 59000 59000\n",
+            detections,
+            "!tracklets 59000\n",
+            "!tracklets 59001\n",
+        ],
+        Status::Done,
+        &[
+            "set stages 1\n",
+            "window 59000 59000\n",
+            "exposure 59000250000 568 accepted 1\n",
+            "exposure 59000260000 568 accepted 1\n",
+            "exposure 59000270000 568 accepted 1\n",
+            "exposure 59000280000 568 accepted 1\n",
+            "tracklets 59000 6\n",
+            "tracklet p1 p2\ntracklet p1 p3\ntracklet p1 p4\n",
+            "tracklet p2 p3\ntracklet p2 p4\ntracklet p3 p4\n",
+            "tracklets 59001 0\n",
+        ],
+    )
+}
+
+#[test]
+fn refused_exposures(rt: HostRuntime) -> Result<(), Fail> {
+    expect_watch(
+        &rt,
+        &[
+            "a 59001.25 10 5 20 568 o\n",
+            "!window 59001 59016\n",
+            "a 59001.25 10 5 20 568 o\n",
+            "b 59000.25 10 5 20 568 o\n",
+            "c 59017.25 10 5 20 568 o\n",
+            "!stats\n",
+            "d 59001.25 11 5 20 568 o\n",
+            "a 59001.27 10 5 20 568 o\n",
+            "e 59001.25 11 5 20 F51 o\n",
+            "!stats\n",
+        ],
+        Status::DoneWithRefusals,
+        &[
+            "exposure 59001250000 568 refused nowindow\n",
+            "window 59001 59016\n",
+            "exposure 59000250000 568 refused old\n",
+            "exposure 59001250000 568 accepted 1\n",
+            "exposure 59017250000 568 refused new\n",
+            "stats 1 1 0 0\n",
+            "exposure 59001250000 568 refused held\n",
+            "exposure 59001250000 F51 accepted 1\n",
+            "exposure 59001270000 568 refused id a\n",
+            "stats 2 2 0 0\n",
+        ],
+    )?;
+    // An id that stands twice in its exposure: the whole exposure is turned away.
+    expect_watch(
+        &rt,
+        &[
+            "!window 59001 59016\n",
+            "b 59001.25 10 5 20 568 o\n",
+            "a 59001.25 10 5 20 568 o\n",
+            "b 59001.25 11 5 20 568 o\n",
+            "!stats\n",
+        ],
+        Status::DoneWithRefusals,
+        &[
+            "window 59001 59016\n",
+            "exposure 59001250000 568 refused id b\n",
+            "stats 0 0 0 0\n",
+        ],
+    )
+}
+
+#[test]
+fn refused_lines(rt: HostRuntime) -> Result<(), Fail> {
+    let long = String::from_utf8(vec![in rt.alloc(); b'x'; 1025]?)?;
+    expect_watch(
+        &rt,
+        &[
+            long.as_str(),
+            "\na 59001.25 10 5 20\n",
+            "a 59001.25 360.0000001 5 20 568 o\n",
+            "a 59001.25 10 90.000001 20 568 o\n",
+            "!window 59001 59001\n",
+            "a 59001.25 359.9999999 5 20 568 o\n",
+            "b 59001.27 0.002 5 20 568 o\n",
+            "!tracklets 59001\n",
+        ],
+        Status::DoneWithRefusals,
+        &[
+            "line 1 refused long\n",
+            "line 2 refused fields\n",
+            "line 3 refused ra\n",
+            "line 4 refused dec\n",
+            "window 59001 59001\n",
+            "exposure 59001250000 568 accepted 1\n",
+            "exposure 59001270000 568 accepted 1\n",
+            "tracklets 59001 1\n",
+            "tracklet a b\n",
+        ],
+    )
+}
+
+#[test]
+fn refused_settings_and_windows(rt: HostRuntime) -> Result<(), Fail> {
+    expect_watch(
+        &rt,
+        &[
+            "!set tolerance 5\n",
+            "!set tol_ra 100001\n",
+            "!set tol_ra 0\n",
+            "!window 59010 59009\n",
+            "!window 59000 59016\n",
+            "!window 59001 59016\n",
+            "!window 59000 59015\n",
+            "!set tol_ra 5\n",
+            "!set tol_ra 100001\n",
+        ],
+        Status::DoneWithRefusals,
+        &[
+            "set refused name\n",
+            "set refused range\n",
+            "set tol_ra 0\n",
+            "window refused order\n",
+            "window refused wide\n",
+            "window 59001 59016\n",
+            "window refused back\n",
+            "set refused late\n",
+            "set refused range\n",
+        ],
+    )
+}
+
+#[test]
+fn malformed_commands(rt: HostRuntime) -> Result<(), Fail> {
+    expect_watch(
+        &rt,
+        &[
+            "!foo\n",
+            "!report now\n",
+            "!window a 5\n",
+            "!set tol_ra 1.5\n",
+        ],
+        Status::DoneWithRefusals,
+        &[
+            "line 1 refused command\n",
+            "line 2 refused words\n",
+            "line 3 refused number\n",
+            "line 4 refused number\n",
+        ],
+    )
+}
+
+#[test]
+fn a_delivery_ends_only_at_a_command(rt: HostRuntime) -> Result<(), Fail> {
+    // A refused line has its reply at once. The exposures come in order of epoch and site.
+    expect_watch(
+        &rt,
+        &[
+            "!window 59000 59000\n",
+            "b 59000.25 10 5 20 F51 o\n",
+            "c 59000.27 10 5 20 568 o\n",
+            "\n",
+            " \t \n",
+            "# a comment\n",
+            "x 59000.25 10 5 20\n",
+            "\u{80}\n",
+            "a 59000.25 11 5 20 F51 o\n",
+            "d 59000.25 12 5 20 568 o\n",
+            "!stats\n",
+        ],
+        Status::DoneWithRefusals,
+        &[
+            "window 59000 59000\n",
+            "line 7 refused fields\n",
+            "line 8 refused byte\n",
+            "exposure 59000250000 568 accepted 1\n",
+            "exposure 59000250000 F51 accepted 2\n",
+            "exposure 59000270000 568 accepted 1\n",
+            "stats 3 4 1 0\n",
+        ],
+    )?;
+    // A malformed command ends a delivery too: so the second `b` comes too late for its exposure.
+    expect_watch(
+        &rt,
+        &[
+            "!window 59000 59000\n",
+            "a 59000.25 10 5 20 568 o\n",
+            "!foo\n",
+            "b 59000.25 11 5 20 568 o\n",
+            "!report now\n",
+        ],
+        Status::DoneWithRefusals,
+        &[
+            "window 59000 59000\n",
+            "exposure 59000250000 568 accepted 1\n",
+            "line 3 refused command\n",
+            "exposure 59000250000 568 refused held\n",
+            "line 5 refused words\n",
+        ],
+    )
+}
+
+#[test]
+fn what_waits_at_the_end_is_delivered(rt: HostRuntime) -> Result<(), Fail> {
+    let [a1, a2, b1, b2, c1, c2] = SIX_LINES;
+    expect_watch(
+        &rt,
+        &[WINDOW, c2, b1, a2, a1, c1, b2],
+        Status::Done,
+        &[WINDOW_SET, SIX_ACCEPTED],
+    )?;
+    expect_watch(
+        &rt,
+        &["a 59001.25 10 5 20 568 o\n", "# the end\n"],
+        Status::DoneWithRefusals,
+        &["exposure 59001250000 568 refused nowindow\n"],
+    )
+}
+
+#[test]
+fn unended_last_lines(rt: HostRuntime) -> Result<(), Fail> {
+    expect_watch(&rt, &["!window 3 5"], Status::Done, &["window 3 5\n"])?;
+    expect_watch(&rt, &["!report"], Status::Done, &["report - - 0\n"])?;
+    expect_watch(
+        &rt,
+        &[WINDOW, "a1 59000.25 10 5 20 568 obj1"],
+        Status::Done,
+        &[WINDOW_SET, "exposure 59000250000 568 accepted 1\n"],
+    )?;
+    // A carriage return is dropped before a line feed, and only there.
+    expect_watch(
+        &rt,
+        &["!window -1 14\r\n"],
+        Status::Done,
+        &["window -1 14\n"],
+    )?;
+    for line in ["!report\r", "\r"] {
+        expect_watch(
+            &rt,
+            &[line],
+            Status::DoneWithRefusals,
+            &["line 1 refused byte\n"],
+        )?;
     }
     Ok(())
 }
 
 #[test]
 fn long_lines(rt: HostRuntime) -> Result<(), Fail> {
+    let alloc = rt.alloc();
     // A comment may have any length; another line, at most 1,024 bytes.
-    let mut text = vec![in rt.alloc(); b'#'; 3_000_000]?;
-    text.push(b'\n')?;
-    for length in [1024, 1025] {
-        for _ in 0..length {
-            text.push(b' ')?;
-        }
-        text.push(b'\n')?;
+    let comment = String::from_utf8(vec![in alloc; b'#'; 3_000_000]?)?;
+    let spaces = String::from_utf8(vec![in alloc; b' '; 1024]?)?;
+    let letters = String::from_utf8(vec![in alloc; b'x'; 1024]?)?;
+    let many = String::from_utf8(vec![in alloc; b'x'; 3_000_000]?)?;
+    let [comment, spaces, letters] = [comment.as_str(), spaces.as_str(), letters.as_str()];
+    let script = [
+        comment,
+        "\n",
+        spaces,
+        "\n ",
+        spaces,
+        "\n",
+        letters,
+        "\r\n",
+        letters,
+        "\rx\n!",
+        letters,
+        "\n",
+        many.as_str(),
+    ];
+    expect_in_pieces(
+        &rt,
+        4096,
+        &script,
+        Status::DoneWithRefusals,
+        &[
+            "line 3 refused long\n",
+            "line 4 refused fields\n",
+            "line 5 refused long\n",
+            "line 6 refused long\n",
+            "line 7 refused long\n",
+        ],
+    )
+}
+
+#[test]
+fn limits_of_a_night_and_of_the_log(rt: HostRuntime) -> Result<(), Fail> {
+    let alloc = rt.alloc();
+    let mut lines = String::new(alloc);
+    let mut replies = String::new(alloc);
+    for number in 0..4_097_u32 {
+        let line = format!(in alloc; "d{number} 59000.25 10 5 20 {number:04} NS\n")?;
+        lines.push_str(line.as_str())?;
+        let answer = if number < 4_096 {
+            "accepted 1"
+        } else {
+            "refused nightfull"
+        };
+        let reply = format!(in alloc; "exposure 59000250000 {number:04} {answer}\n")?;
+        replies.push_str(reply.as_str())?;
     }
-    for _ in 0..3_000_000 {
-        text.push(b'x')?;
+    expect_in_pieces(
+        &rt,
+        4096,
+        &[WINDOW, lines.as_str()],
+        Status::DoneWithRefusals,
+        &[WINDOW_SET, replies.as_str()],
+    )
+}
+
+#[test]
+fn faults_in_the_middle(rt: HostRuntime) -> Result<(), Fail> {
+    let alloc = rt.alloc();
+    let [a1, a2, b1, b2, c1, c2] = SIX_LINES;
+    let script = [WINDOW, a1, a2, b1, b2, c1, c2, "!report\n"];
+    let input = joined(alloc, &script)?;
+    let whole = joined(alloc, &[WINDOW_SET, SIX_ACCEPTED, ONE_TRACK])?;
+    for failing in 0..30_u64 {
+        let mut source = MemSource::new(joined(alloc, &script)?, 16, vec![in alloc; failing]?);
+        let mut sink = MemSink::new(alloc, 4096, 8, Vec::new(alloc))?;
+        let status = run_on(alloc, &["watch"], &mut source, &mut sink)?;
+        // The input comes in so many pieces, and its end in one more call.
+        let pieces = input.len().div_ceil(16) as u64;
+        assert_eq!(rt; status == Status::ReadFault, failing <= pieces, "{failing}");
+        // Two pieces hold the first line whole; the detections wait for the last line.
+        let want = match failing {
+            0..2 => b"".as_slice(),
+            _ if failing < pieces => WINDOW_SET.as_bytes(),
+            _ => whole.as_slice(),
+        };
+        assert_eq!(rt; sink.bytes(), want, "{failing}");
+        assert_eq!(rt; sink.flushed(), want.len(), "{failing}");
     }
-    let replies = b"line 3 refused command\nline 4 refused command\n";
-    let words = one_word(rt.alloc(), b"watch")?;
-    let mut source = SureSource::new(text);
-    let mut sink = MemSink::new(rt.alloc(), 4096, 4096, Vec::new(rt.alloc()))?;
-    let mut tally = Tally::zero();
-    let status = run(
-        rt.alloc(),
-        words.as_slice(),
-        &mut source,
-        &mut sink,
-        &mut tally,
-    );
-    assert_eq!(rt; status, Status::DoneWithRefusals);
-    assert_eq!(rt; sink.bytes(), replies.as_slice());
+    Ok(())
+}
+
+#[test]
+fn writes_that_fail_and_room_that_ends(rt: HostRuntime) -> Result<(), Fail> {
+    let alloc = rt.alloc();
+    let [a1, a2, b1, b2, c1, c2] = SIX_LINES;
+    let script = [WINDOW, a1, a2, b1, b2, c1, c2, "!report\n"];
+    let whole = joined(alloc, &[WINDOW_SET, SIX_ACCEPTED, ONE_TRACK])?;
+    // The first reply is written in three calls, and flushed in a fourth.
+    for (failing, written) in [(0, 0), (1, 8), (2, 16), (3, 19), (4, 19), (5, 27)] {
+        let mut source = SureSource::new(joined(alloc, &script)?);
+        let mut sink = MemSink::new(alloc, 4096, 8, vec![in alloc; failing]?)?;
+        let status = run_on(alloc, &["watch"], &mut source, &mut sink)?;
+        assert_eq!(rt; status, Status::WriteFault, "{failing}");
+        assert_eq!(rt; sink.bytes().len(), written, "{failing}");
+        assert!(rt; whole.as_slice().starts_with(sink.bytes()), "{failing}");
+    }
+    for room in 0..whole.len() {
+        let mut source = SureSource::new(joined(alloc, &script)?);
+        let mut sink = MemSink::new(alloc, room, 8, Vec::new(alloc))?;
+        let status = run_on(alloc, &["watch"], &mut source, &mut sink)?;
+        assert_eq!(rt; status, Status::WriteFault, "{room}");
+        assert_eq!(rt; sink.bytes().len(), room);
+        assert!(rt; whole.as_slice().starts_with(sink.bytes()), "{room}");
+    }
     Ok(())
 }
 
@@ -195,42 +700,25 @@ fn long_lines(rt: HostRuntime) -> Result<(), Fail> {
 fn usage(rt: HostRuntime) -> Result<(), Fail> {
     replies_are_unique();
     replies_exist();
-    let mut source = SureSource::new(Vec::from_slice(rt.alloc(), ONE_NIGHT)?);
-    let mut sink = SureSink::new();
-    let mut tally = Tally::zero();
-    let none = Vec::new(rt.alloc());
-    assert_eq!(rt;
-        run(
-            rt.alloc(),
-            none.as_slice(),
-            &mut source,
-            &mut sink,
-            &mut tally
-        ),
-        Status::Usage
-    );
-    let link = one_word(rt.alloc(), b"link")?;
-    assert_eq!(rt;
-        run(
-            rt.alloc(),
-            link.as_slice(),
-            &mut source,
-            &mut sink,
-            &mut tally
-        ),
-        Status::Usage
-    );
-    let mut two = one_word(rt.alloc(), b"watch")?;
-    two.push(Word::new(rt.alloc(), b"now")?)?;
-    assert_eq!(rt;
-        run(
-            rt.alloc(),
-            two.as_slice(),
-            &mut source,
-            &mut sink,
-            &mut tally
-        ),
-        Status::Usage
-    );
+    let alloc = rt.alloc();
+    let lists: [&[&str]; 6] = [
+        &[],
+        &["watch", "now"],
+        &["watching"],
+        &["generate", "1", "17", "1"],
+        &["summary", "1", "3"],
+        &["--help"],
+    ];
+    for words in lists {
+        let mut source = SureSource::new(joined(alloc, &[WINDOW])?);
+        let mut sink = MemSink::new(alloc, 4096, 4096, Vec::new(alloc))?;
+        let status = run_on(alloc, words, &mut source, &mut sink)?;
+        assert_eq!(rt; status, Status::Usage);
+        assert!(rt; sink.bytes().is_empty());
+    }
+    // A sink that tells nothing is written to all the same.
+    let mut source = SureSource::new(joined(alloc, &[WINDOW])?);
+    let status = run_on(alloc, &["watch"], &mut source, &mut SureSink::new())?;
+    assert_eq!(rt; status, Status::Done);
     Ok(())
 }

@@ -62,7 +62,7 @@ pub fn run<I: Source, O: Sink>(
     if !is_watch(words) {
         return Status::Usage;
     }
-    watch(alloc, source, sink)
+    watch(alloc, source, sink, tally)
 }
 
 /// Whether the words are the one word `watch`.

@@ -1,6 +1,5 @@
-use Rattle.mops_run.specs.Sky.{start}
-use Rattle.mops_run.proofs.Runs.{Answers-some}
+use Rattle.mops_run.proofs.Existence.{all_answers}
 use Rattle.mops_run.proofs.laws.replies_exist.Goals as goal
 
 pub returns : goal.returns
-returns c = λ lines. Answers-some 1 start lines
+returns c = all_answers c.some_report_list.ensures

@@ -1,0 +1,101 @@
+-- The numbers of a command are below 10^18: they have at most eighteen digits.
+use Rattle.std.proofs.Common.{◌≡◌, ℕ, ◌<◌, ◌≤◌, ◌^◌, ℤ, pos, neg_ℤ, ◌<ℤ◌, List, [], ◌∷◌, length, refl, ap, sym, ◌∙◌, arith, Bool, true, false, cond}
+use Rattle.std.specs.Prelude.{Option, Some, None, Result, Ok, Err, ◌&&◌, nat_lt, nat_le, bytes_eq, codes, not, ◌==◌, slice_index}
+use Rattle.std.specs.List.{list_all}
+use Rattle.std.specs.Char.{is_ascii_digit}
+use Rattle.std.specs.Str.Parse.{digits_value, starts_with_minus}
+use Rattle.std.proofs.lemmas.Int.{ints}
+use Rattle.std.proofs.Math.Nat.{pow-le-pow_right}
+use Rattle.std.proofs.lemmas.Bool.Decides.{nat_tests}
+use Rattle.miti_text.specs.Numerals.{number_of, size_of, signed, with_sign, without_minus}
+use Rattle.miti_text.specs.Observation.{Observation}
+use Rattle.miti_text.specs.Words.{is_blank, words}
+use Rattle.miti_text.specs.Lines.{is_text, detection_of}
+use Rattle.miti_text.specs.declared.errors.LineError.{LineError}
+use Rattle.miti_text.proofs.DigitTexts.{value_below}
+use Rattle.script_text.specs.Commands.{command_of, set_of, window_of, tracklets_of, alone, one_of, two_of, or_error, ◌>>=◌}
+use Rattle.script_text.specs.Script.{script_line_of, detection_line}
+use Rattle.script_text.specs.declared.script.Line.{Line}
+use Rattle.script_text.specs.declared.script.Line.TheVariants as lines
+use Rattle.script_text.specs.declared.errors.ScriptError.{ScriptError}
+use Rattle.script_text.specs.declared.errors.ScriptError.TheVariants.{Words, Number}
+use Rattle.mops_run.specs.Commands.{IsSmall, HasSmallWindow}
+
+-- a number that is small, where there is one
+abbrev IsSmallNumber : Option ℤ → Type 0
+IsSmallNumber None = Unit {0}
+IsSmallNumber (Some z) = IsSmall z
+
+digits_small : (b : Bool) (n : ℕ) → n < 10 ^ 18 → IsSmall (signed b n)
+digits_small true n h = (omega (arith, ints), omega (arith, ints))
+digits_small false n h = (omega (arith, ints), omega (arith, ints))
+
+size_small : (minus : Bool) (digits : List ℕ) (b : Bool) → (nat_lt 0 (length digits) && (nat_le (length digits) 18 && list_all is_ascii_digit digits)) ≡ b
+    → IsSmallNumber (with_sign minus (cond b (Some (digits_value 10 digits)) None))
+size_small minus digits false e = tt
+size_small minus digits true e =
+    let short : length digits ≤ 18 = grind (arith, nat_tests) in
+    let all : list_all is_ascii_digit digits ≡ true = grind (arith, nat_tests) in
+    let bound = value_below digits all in
+    let power : 10 ^ length digits ≤ 10 ^ 18 = pow-le-pow_right {n = 10} (omega arith) short in
+    digits_small minus (digits_value 10 digits) (omega (arith, bound, power))
+
+number_small : (text : List ℕ) → IsSmallNumber (number_of text)
+unfolding number_of
+number_small text = size_small (starts_with_minus text) (without_minus text) (nat_lt 0 (length (without_minus text)) && (nat_le (length (without_minus text)) 18 && list_all is_ascii_digit (without_minus text))) refl
+
+either : (b : Bool) (x y : Result Line ScriptError) → HasSmallWindow x → HasSmallWindow y → HasSmallWindow (cond b x y)
+either true x y h k = h
+either false x y h k = k
+
+both_numbers : (low high : Option ℤ) → IsSmallNumber low → IsSmallNumber high → HasSmallWindow (or_error Number low >>= λ lo. or_error Number high >>= λ hi. Ok (lines.Window lo hi))
+both_numbers None high h k = tt
+both_numbers (Some lo) None h k = tt
+both_numbers (Some lo) (Some hi) h k = (h, k)
+
+window_small : (pair : Option (List ℕ × List ℕ)) → HasSmallWindow (or_error Words pair >>= λ p. or_error Number (number_of p.0) >>= λ lo. or_error Number (number_of p.1) >>= λ hi. Ok (lines.Window lo hi))
+window_small None = tt
+window_small (Some p) = both_numbers (number_of p.0) (number_of p.1) (number_small p.0) (number_small p.1)
+
+set_small : (pair : Option (List ℕ × List ℕ)) → HasSmallWindow (or_error Words pair >>= λ p. or_error Number (number_of p.1) >>= λ value. Ok (lines.Set p.0 value))
+set_small None = tt
+set_small (Some p) = value (number_of p.1)
+  where
+    value : (found : Option ℤ) → HasSmallWindow (or_error Number found >>= λ value. Ok (lines.Set p.0 value))
+    value None = tt
+    value (Some z) = tt
+
+tracklets_small : (word : Option (List ℕ)) → HasSmallWindow (or_error Words word >>= λ w. or_error Number (number_of w) >>= λ night. Ok (lines.Tracklets night))
+tracklets_small None = tt
+tracklets_small (Some w) = night (number_of w)
+  where
+    night : (found : Option ℤ) → HasSmallWindow (or_error Number found >>= λ night. Ok (lines.Tracklets night))
+    night None = tt
+    night (Some z) = tt
+
+alone_small : (ws : List (List ℕ)) → HasSmallWindow (alone lines.Report ws) × HasSmallWindow (alone lines.Stats ws)
+alone_small [] = (tt, tt)
+alone_small (w ∷ ws) = (tt, tt)
+
+command_small : (ws : List (List ℕ)) → HasSmallWindow (command_of ws)
+unfolding command_of
+command_small [] = tt
+command_small (name ∷ ws) =
+    either (bytes_eq name (codes "!set")) _ _ (set_small (two_of ws)) (
+    either (bytes_eq name (codes "!window")) _ _ (window_small (two_of ws)) (
+    either (bytes_eq name (codes "!tracklets")) _ _ (tracklets_small (one_of ws)) (
+    either (bytes_eq name (codes "!report")) _ _ (alone_small ws).0 (
+    either (bytes_eq name (codes "!stats")) _ _ (alone_small ws).1 tt))))
+
+detection_small : (d : Result Observation LineError) → HasSmallWindow (detection_line d)
+detection_small (Ok d) = tt
+detection_small (Err e) = tt
+
+pub line_small : (line : List ℕ) → HasSmallWindow (script_line_of line)
+unfolding script_line_of
+line_small line =
+    either (slice_index line 0 == 35) _ _ tt (
+    either (nat_lt 1024 (length line)) _ _ tt (
+    either (list_all is_blank line) _ _ tt (
+    either (not (list_all is_text line)) _ _ tt (
+    either (slice_index line 0 == 33) _ _ (command_small (words line)) (detection_small (detection_of line))))))

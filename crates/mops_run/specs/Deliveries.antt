@@ -1,0 +1,41 @@
+-- How the detections that wait are delivered: gathered into exposures, which are added in order of epoch and site.
+use Rattle.std.specs.Prelude.{◌≡◌, ℕ, List, [], ◌∷◌, length, slice_get, MatchOption}
+use Rattle.std.specs.Option.{option_map_or}
+use Rattle.miti_text.specs.Observation.{Observation}
+use Rattle.exposure_log.specs.Deliveries.{AreExposuresOf}
+use Rattle.exposure_log.specs.Held.{ExposureData, Adds, refusal}
+use Rattle.exposure_log.specs.declared.errors.AddError.{AddError}
+use Rattle.exposure_log.specs.declared.errors.AddError.TheVariants.{Id}
+use Rattle.window_incr.specs.LinkerState.{LinkerData}
+use Rattle.track_report.specs.declared.replies.Reply.{Reply}
+use Rattle.track_report.specs.declared.replies.Reply.TheVariants as replies
+
+-- the id that a refusal names: that of the place which `Id` carries
+abbrev pub named_id : AddError → ExposureData → List ℕ
+named_id (Id place) x = option_map_or (λ d. d.id) (slice_get x.detections place) []
+named_id error x = []
+
+-- the exposure is held from now on
+pub record IsTaken (old : LinkerData) (x : ExposureData) (reply : Reply) (new : LinkerData) : Type 0 where
+  pub settings : new.settings ≡ old.settings
+  pub log : Adds old.log new.log x
+  pub reply_is : reply ≡ replies.Added x.epoch x.site (length x.detections)
+
+-- the exposure is turned away, and nothing changes
+pub record IsTurnedAway (old : LinkerData) (x : ExposureData) (error : AddError) (reply : Reply) (new : LinkerData) : Type 0 where
+  pub same : new ≡ old
+  pub reply_is : reply ≡ replies.Refused x.epoch x.site error (named_id error x)
+
+-- an exposure is taken where nothing refuses it, and is turned away by the first cause where something does
+abbrev pub AddsOne : LinkerData → ExposureData → Reply → LinkerData → Type 0
+AddsOne old x reply new = MatchOption (refusal old.log x) (IsTaken old x reply new) (λ error. IsTurnedAway old x error reply new)
+
+-- exposures are added one after another
+abbrev pub AddsAll : LinkerData → List ExposureData → List Reply → LinkerData → Type 0
+AddsAll old [] given new = (given ≡ []) × (new ≡ old)
+AddsAll old (x ∷ xs) given new =
+    (reply : Reply) × (later : List Reply) × (between : LinkerData) × AddsOne old x reply between × AddsAll between xs later new × (given ≡ reply ∷ later)
+
+-- the exposures of the detections are added in their order
+abbrev pub Delivers : LinkerData → List Observation → List Reply → LinkerData → Type 0
+Delivers old waiting given new = (exposures : List ExposureData) × AreExposuresOf waiting exposures × AddsAll old exposures given new

@@ -1,0 +1,90 @@
+//! Delivering the detections that wait: they are gathered into exposures, which are added in order.
+ghost use Rattle.std.specs.Prelude.{◌≡◌, ◌<◌, ◌^◌, [], IfOk, length, slice_get};
+ghost use Rattle.std.specs.List.{All};
+ghost use Rattle.std.specs.Option.{option_map_or};
+ghost use Rattle.exposure_log.specs.Exposures.{IsExposure};
+ghost use Rattle.mops_run.specs.Deliveries.{AddsAll, AddsOne, Delivers, named_id as named_id_of};
+
+use exposure_log::{AddError, Exposure, gather};
+use miti_text::Detection;
+use sky_units::{NoMemory, Tally, Word};
+use std::alloc::{AllocError, Global};
+use track_report::Reply;
+use window_incr::Linker;
+
+/// Delivers the detections that wait to the linker, and gives the replies: one for each exposure, in
+/// order of epoch and site.
+pub fn deliver(
+    alloc: Global,
+    linker: &mut Linker,
+    waiting: Vec<Detection>,
+    tally: &mut Tally,
+) -> Result<Vec<Reply>, NoMemory>
+    requires { length waiting.items < 2 ^ 32 }
+    ensures replies { IfOk result (λ replies. Delivers linker.old waiting.items replies.items linker.new) }
+    ensures tally { tally.new ≡ tally.old }
+{
+    let exposures = gather(alloc, waiting)?;
+    add_all(alloc, linker, exposures.as_slice(), tally)
+}
+
+/// Adds exposures one after another, and gives the reply of each.
+fn add_all(
+    alloc: Global,
+    linker: &mut Linker,
+    exposures: &[Exposure],
+    tally: &mut Tally,
+) -> Result<Vec<Reply>, NoMemory>
+    ensures replies { IfOk result (λ replies. AddsAll linker.old exposures.now replies.items linker.new) }
+    ensures keep { IfOk result (λ _. All IsExposure exposures.now) }
+    ensures tally { tally.new ≡ tally.old }
+{
+    let mut replies = Vec::with_capacity(alloc, exposures.len())?;
+    for exposure in exposures {
+        replies.push(add(alloc, linker, exposure, tally)?)?;
+    }
+    Ok(replies)
+}
+
+/// Adds an exposure, and gives its reply.
+fn add(
+    alloc: Global,
+    linker: &mut Linker,
+    exposure: &Exposure,
+    tally: &mut Tally,
+) -> Result<Reply, NoMemory>
+    ensures reply { IfOk result (λ reply. AddsOne linker.old exposure.now reply linker.new) }
+    ensures keeps { IsExposure exposure.now }
+    ensures tally { tally.new ≡ tally.old }
+{
+    let epoch = exposure.epoch();
+    let site = Word::new(alloc, exposure.site())?;
+    match linker.add(exposure, tally) {
+        Ok(count) => Ok(Reply::Added(epoch, site, count)),
+        Err(AddError::NoMemory) => Err(AllocError),
+        Err(error) => {
+            let id = named_id(alloc, error, exposure)?;
+            Ok(Reply::Refused(epoch, site, error, id))
+        }
+    }
+}
+
+/// The id that a refusal names, which is empty where it names none.
+fn named_id(alloc: Global, error: AddError, exposure: &Exposure) -> Result<Word, NoMemory>
+    ensures { IfOk result (λ id. id ≡ named_id_of error exposure.now) }
+{
+    match error {
+        AddError::Id(place) => id_at(alloc, exposure.detections(), place),
+        _ => Word::new(alloc, b""),
+    }
+}
+
+/// The id of the detection at a place, which is empty where there is none.
+fn id_at(alloc: Global, detections: &[Detection], place: u32) -> Result<Word, NoMemory>
+    ensures { IfOk result (λ id. id ≡ option_map_or (λ d. d.id) (slice_get detections.now place) []) }
+{
+    match detections.get(place as usize) {
+        Some(detection) => detection.id.clone(),
+        None => Word::new(alloc, b""),
+    }
+}
