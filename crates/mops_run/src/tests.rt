@@ -620,7 +620,7 @@ fn long_lines(rt: HostRuntime) -> Result<(), Fail> {
 }
 
 #[test]
-fn limits_of_a_night_and_of_the_log(rt: HostRuntime) -> Result<(), Fail> {
+fn limit_of_a_night(rt: HostRuntime) -> Result<(), Fail> {
     let alloc = rt.alloc();
     let mut lines = String::new(alloc);
     let mut replies = String::new(alloc);
@@ -642,6 +642,38 @@ fn limits_of_a_night_and_of_the_log(rt: HostRuntime) -> Result<(), Fail> {
         Status::DoneWithRefusals,
         &[WINDOW_SET, replies.as_str()],
     )
+}
+
+/// Watches one delivery of so many detections of one exposure, and compares the last reply.
+fn expect_of_exposure(
+    rt: &(impl Abort + AllocGlobal),
+    count: u32,
+    status: Status,
+    reply: &str,
+) -> Result<(), Fail> {
+    let alloc = rt.alloc();
+    let mut script = joined(alloc, &[WINDOW])?;
+    for number in 0..count {
+        let line = format!(in alloc; "d{number} 59000.25 10 5 20 568 NS\n")?;
+        script.extend_from_slice(line.as_bytes())?;
+    }
+    let mut source = SureSource::new(script);
+    let mut sink = MemSink::new(alloc, 4096, 4096, Vec::new(alloc))?;
+    let ended = run_on(alloc, &["watch"], &mut source, &mut sink)?;
+    assert_eq!(rt; ended, status);
+    assert_eq!(rt;
+        sink.bytes(),
+        joined(alloc, &[WINDOW_SET, reply])?.as_slice()
+    );
+    Ok(())
+}
+
+#[test]
+fn limits_of_the_log(rt: HostRuntime) -> Result<(), Fail> {
+    let full = "exposure 59000250000 568 refused full\n";
+    expect_of_exposure(&rt, 1_048_577, Status::DoneWithRefusals, full)?;
+    let accepted = "exposure 59000250000 568 accepted 1048576\n";
+    expect_of_exposure(&rt, 1_048_576, Status::Done, accepted)
 }
 
 #[test]
