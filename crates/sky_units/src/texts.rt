@@ -4,14 +4,17 @@ ghost use Rattle.std.specs.Cmp.Lexicographic.{pointwise, slice_cmp, nat_list_eq_
 ghost use Rattle.std.specs.Cmp.{partial_equiv_from_equiv};
 
 use crate::NoMemory;
+use smallvec::SmallVec;
 use std::alloc::{AllocError, Global};
 use std::cmp::Ordering;
 use std::marker::Model;
 
 /// A word: a list of bytes, as an id, a site or a name. Its order is that of its bytes.
+///
+/// Up to sixteen bytes lie in the value itself, and take no memory beside it.
 #[derive(Debug, Drop)]
 pub struct Word {
-    bytes: Vec<u8>,
+    bytes: SmallVec<u8, 16>,
 }
 
 impl Model for Word {
@@ -28,7 +31,7 @@ impl Word {
         ensures { IfOk result (λ word. word ≡ bytes.now) }
     {
         Ok(Word {
-            bytes: Vec::from_slice(alloc, bytes)?,
+            bytes: SmallVec::from_slice(alloc, bytes)?,
         })
     }
 
@@ -45,7 +48,7 @@ impl Clone for Word {
 
     fn clone(&self) -> Result<Word, AllocError> {
         Ok(Word {
-            bytes: self.bytes.clone()?,
+            bytes: SmallVec::from_slice(*self.bytes.allocator(), self.bytes())?,
         })
     }
 }
