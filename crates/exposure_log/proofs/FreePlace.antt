@@ -1,12 +1,17 @@
 -- A free place among the groups is one among the exposures.
 use Rattle.std.proofs.Common.{◌≡◌, ℕ, ◌<◌, ◌≤◌, ℤ, Option, List, [], ◌∷◌, length, get_or, map, zero, suc, refl, arith}
 use Rattle.std.proofs.Math.ListN.{get_or-map}
+use Rattle.std.specs.List.{filter}
 use Rattle.std.specs.List.Sorted.{IsPartitionPoint}
+use Rattle.std.specs.Ordering.{int_eq}
 use Rattle.std.specs.declared.cmp.Ordering.TheVariants.{Less, Greater}
+use Rattle.sky_math.specs.Night.{night_at}
 use Rattle.miti_text.specs.Observation.{Observation}
 use Rattle.exposure_log.specs.declared.groups.Group.{Group}
-use Rattle.exposure_log.specs.Held.{HeldExposure, IsFreePlace, place_cmp}
+use Rattle.exposure_log.specs.Held.{HeldExposure, IsFreePlace, of_night, place_cmp}
+use Rattle.exposure_log.specs.NightGroups.{IsFree, is_of_night}
 use Rattle.exposure_log.specs.Groups.{group_cmp, exposure_of}
+use Rattle.exposure_log.proofs.Searching.{filter_map_is}
 
 abbrev Slots : Type 0
 Slots = List (Option Observation)
@@ -20,7 +25,7 @@ at_place P f [] k d h all = absurd (omega arith)
 at_place P f (g ∷ gs) zero d h all = all g
 at_place P f (g ∷ gs) (suc k) d h all = at_place P f gs k d (omega arith) all
 
-pub among_exposures : (slots : Slots) (groups : List Group) (epoch : ℤ) (site : List ℕ) (i : ℕ) → i ≤ length groups
+among_exposures : (slots : Slots) (groups : List Group) (epoch : ℤ) (site : List ℕ) (i : ℕ) → i ≤ length groups
     → IsPartitionPoint (λ g. group_cmp epoch site g ≡ Less) (λ g. group_cmp epoch site g ≡ Greater) groups i → IsFreePlace epoch site (map (exposure_of slots) groups) i
 among_exposures slots groups epoch site i h parts =
     let len = length_map (exposure_of slots) groups in
@@ -30,7 +35,7 @@ among_exposures slots groups epoch site i h parts =
       later = λ k d low high. at_place (λ x. place_cmp epoch site x ≡ Greater) (exposure_of slots) groups k d (omega (arith, high, len)) (λ g. parts.1 k g low (omega (arith, high, len)));
     }
 
-pub among_groups : (slots : Slots) (groups : List Group) (epoch : ℤ) (site : List ℕ) (i : ℕ) → IsFreePlace epoch site (map (exposure_of slots) groups) i
+among_groups : (slots : Slots) (groups : List Group) (epoch : ℤ) (site : List ℕ) (i : ℕ) → IsFreePlace epoch site (map (exposure_of slots) groups) i
     → (i ≤ length groups) × IsPartitionPoint (λ g. group_cmp epoch site g ≡ Less) (λ g. group_cmp epoch site g ≡ Greater) groups i
 among_groups slots groups epoch site i free =
     let len = length_map (exposure_of slots) groups in (
@@ -40,3 +45,15 @@ among_groups slots groups epoch site i free =
         (λ k g low high. rw (get_or-map (exposure_of slots) groups k g) at (free.later k (exposure_of slots g) low (omega (arith, high, len)))),
       ),
     )
+
+of_its_night : (slots : Slots) (shift night : ℤ) (groups : List Group) → of_night shift night (map (exposure_of slots) groups) ≡ map (exposure_of slots) (filter (is_of_night shift night) groups)
+of_its_night slots shift night groups = filter_map_is (λ x. int_eq (night_at shift x.epoch) night) (exposure_of slots) groups
+
+-- the same within a night
+pub among_exposures_of_night : (slots : Slots) (shift night : ℤ) (groups : List Group) (epoch : ℤ) (site : List ℕ) (i : ℕ)
+    → IsFree epoch site (filter (is_of_night shift night) groups) i → IsFreePlace epoch site (of_night shift night (map (exposure_of slots) groups)) i
+among_exposures_of_night slots shift night groups epoch site i free = rw (of_its_night slots shift night groups) (among_exposures slots (filter (is_of_night shift night) groups) epoch site i free.0 free.1)
+
+pub among_groups_of_night : (slots : Slots) (shift night : ℤ) (groups : List Group) (epoch : ℤ) (site : List ℕ) (i : ℕ)
+    → IsFreePlace epoch site (of_night shift night (map (exposure_of slots) groups)) i → IsFree epoch site (filter (is_of_night shift night) groups) i
+among_groups_of_night slots shift night groups epoch site i free = among_groups slots (filter (is_of_night shift night) groups) epoch site i (rw (of_its_night slots shift night groups) at free)

@@ -9,7 +9,7 @@ use Rattle.std.proofs.lemmas.List.Sums.{sum_by-cons}
 use Rattle.miti_text.specs.Observation.{Observation}
 use Rattle.exposure_log.specs.declared.groups.Group.{Group}
 use Rattle.exposure_log.specs.Numbering.{slot, count_held}
-use Rattle.exposure_log.specs.Groups.{entries_of, exposure_of, group_cmp, IsGroup, AreGroups, stays, gone}
+use Rattle.exposure_log.specs.Groups.{entries_of, exposure_of, group_cmp, IsGroup, AreGroups}
 use Rattle.exposure_log.proofs.HeldList.{any_at}
 
 abbrev Slots : Type 0
@@ -17,6 +17,14 @@ Slots = List (Option Observation)
 
 abbrev among : ℕ → List ℕ → Bool
 among k numbers = list_any (λ n. n == k) numbers
+
+-- a group stays by its place
+abbrev pub stays : (ℤ → List ℕ → Bool) → Group → Bool
+stays keep g = keep g.epoch g.site
+
+-- the number is that of a group that leaves
+abbrev pub gone : (ℤ → List ℕ → Bool) → List Group → ℕ → Bool
+gone keep groups n = list_any (λ g. not (stays keep g) && among n g.numbers.items) groups
 
 pub any_found : {X : Type 0} (q : X → Bool) (xs : List X) → list_any q xs ≡ true → (k : ℕ) × ((k < length xs) × ((d : X) → q (get_or xs k d) ≡ true))
 any_found q [] h = cc

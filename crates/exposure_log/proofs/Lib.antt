@@ -21,5 +21,8 @@ pub mod LeastNumbers
 pub mod StableSort
 pub mod Cutting
 pub mod Delivering
-pub mod NightStretch
+pub mod NightOrder
+pub mod ByNight
+pub mod AtPlace
+pub mod NightEdits
 pub mod FreePlace

@@ -14,7 +14,9 @@ use Rattle.exposure_log.specs.declared.groups.Group.{Group}
 use Rattle.exposure_log.specs.Numbering.{slot}
 use Rattle.exposure_log.specs.Held.{HeldExposure, stands_at, is_held_id, is_taken, first_taken, of_night}
 use Rattle.exposure_log.specs.Groups.{group_cmp, exposure_of, AreGroups, NoneTaken, IsFirstTaken, IsFresh, IsApart, IsTaken}
+use Rattle.exposure_log.specs.NightGroups.{is_of_night}
 use Rattle.exposure_log.proofs.HeldList.{none_held, some_held, any_at}
+use Rattle.exposure_log.proofs.Removing.{still_there}
 use Rattle.exposure_log.proofs.Searching.{any_map, any_none, filter_map_is}
 
 abbrev Slots : Type 0
@@ -32,8 +34,9 @@ at_place : (groups : List Group) (epoch : ℤ) (site : List ℕ) (i : ℕ) → i
 at_place [] epoch site i h found = absurd (omega arith)
 at_place (x ∷ xs) epoch site i h found = any_at (λ (g : Group). is_eq (group_cmp epoch site g)) (x ∷ xs) i (get_or (x ∷ xs) i x) h (any_default (x ∷ xs) i x (get_or (x ∷ xs) i x) h) (ap is_eq (found x))
 
-pub place_is_held : (slots : Slots) (groups : List Group) (epoch : ℤ) (site : List ℕ) (i : ℕ) → i < length groups → ((g : Group) → group_cmp epoch site (get_or groups i g) ≡ Equal) → list_any (stands_at epoch site) (map (exposure_of slots) groups) ≡ true
-place_is_held slots groups epoch site i h found = any_map (stands_at epoch site) (exposure_of slots) groups ∙ at_place groups epoch site i h found
+-- what stands among the groups of a night is held
+pub place_is_held_in_night : (slots : Slots) (groups : List Group) (q : Group → Bool) (epoch : ℤ) (site : List ℕ) (i : ℕ) → (i < length (filter q groups)) × ((g : Group) → group_cmp epoch site (get_or (filter q groups) i g) ≡ Equal) → list_any (stands_at epoch site) (map (exposure_of slots) groups) ≡ true
+place_is_held_in_night slots groups q epoch site i found = any_map (stands_at epoch site) (exposure_of slots) groups ∙ still_there (λ (g : Group). is_eq (group_cmp epoch site g)) q groups (at_place (filter q groups) epoch site i found.0 found.1)
 
 -- ---- the first taken id
 
@@ -124,10 +127,8 @@ length_map : (f : Group → HeldExposure) (gs : List Group) → length (map f gs
 length_map f [] = refl
 length_map f (g ∷ gs) = let e = length_map f gs in omega (arith, e)
 
--- how many exposures a night has, where its groups were found
-pub counted_night : (slots : Slots) (groups gs here : List Group) (s shift n night : ℤ) → here ≡ filter (λ g. int_eq (night_at s g.epoch) n) gs → s ≡ shift → n ≡ night → gs ≡ groups
-    → length (of_night shift night (map (exposure_of slots) groups)) ≡ length here
-counted_night slots groups gs here s shift n night h a b e =
-    let found : here ≡ filter (λ g. int_eq (night_at shift g.epoch) night) groups = rw (a, b, e) at h in
+-- how many exposures a night has
+pub counted_night : (slots : Slots) (shift night : ℤ) (groups here : List Group) → here ≡ filter (is_of_night shift night) groups → length (of_night shift night (map (exposure_of slots) groups)) ≡ length here
+counted_night slots shift night groups here is =
     ap length (filter_map_is (λ x. int_eq (night_at shift x.epoch) night) (exposure_of slots) groups)
-    ∙ (length_map (exposure_of slots) (filter (λ (g : Group). int_eq (night_at shift g.epoch) night) groups) ∙ ap length (sym found))
+    ∙ (length_map (exposure_of slots) (filter (is_of_night shift night) groups) ∙ ap length (sym is))

@@ -1,12 +1,12 @@
 -- What a search for a place says of the groups: which stand before it, at it and after it.
-use Rattle.std.proofs.Common.{◌≡◌, ◌≢◌, ℕ, ◌<◌, ◌≤◌, ℤ, Bool, true, false, ◌||◌, Option, Some, List, [], ◌∷◌, length, get_or, take, drop, map, refl, sym, ap, ◌∙◌, arith, zero, suc, inl, inr}
+use Rattle.std.proofs.Common.{◌≡◌, ◌≢◌, ℕ, ◌<◌, ◌≤◌, ℤ, Bool, true, false, not, Option, Some, List, [], ◌∷◌, length, get_or, take, drop, map, refl, sym, ap, ◌∙◌, arith, zero, suc, inl, inr}
 use Rattle.std.specs.List.{list_any, slice_index, filter, remove}
 use Rattle.std.specs.declared.cmp.Ordering.{Ordering}
 use Rattle.std.specs.declared.cmp.Ordering.TheVariants.{Less, Equal, Greater}
 use Rattle.std.specs.Ordering.{nat_cmp, ordering_reverse, is_eq}
 use Rattle.std.specs.Cmp.Lexicographic.{slice_cmp}
 use Rattle.std.proofs.lemmas.Cmp.{nat_list_cmp_total, tied_itself}
-use Rattle.std.proofs.lemmas.Bool.{or_from, cases_order}
+use Rattle.std.proofs.lemmas.Bool.{cases_Bool, or_from, cases_order}
 use Rattle.miti_text.specs.Observation.{Observation}
 use Rattle.exposure_log.specs.declared.groups.Group.{Group}
 use Rattle.exposure_log.specs.Numbering.{slot}
@@ -30,15 +30,6 @@ filter_all p (x ∷ xs) h = rw (h 0 x (omega arith), filter_all p xs (λ k d l. 
 pub filter_none : {X : Type 0} (p : X → Bool) (xs : List X) → ((k : ℕ) (d : X) → k < length xs → p (get_or xs k d) ≡ false) → filter p xs ≡ []
 filter_none p [] h = refl
 filter_none p (x ∷ xs) h = rw (h 0 x (omega arith)) (filter_none p xs (λ k d l. h (suc k) d (omega arith)))
-
-or_nothing : (b : Bool) → (b || false) ≡ b
-or_nothing true = refl
-or_nothing false = refl
-
-pub any_only : {X : Type 0} (p : X → Bool) (xs : List X) (i : ℕ) (e : X) → i < length xs → ((k : ℕ) (d : X) → k < length xs → k ≢ i → p (get_or xs k d) ≡ false) → list_any p xs ≡ p (get_or xs i e)
-any_only p [] i e l h = absurd (omega arith)
-any_only p (x ∷ xs) zero e l h = rw (any_none p xs (λ k d m. h (suc k) d (omega arith) (λ q. omega (arith, q)))) (or_nothing (p x))
-any_only p (x ∷ xs) (suc i) e l h = rw (h 0 x (omega arith) (λ q. omega (arith, q))) (any_only p xs i e (omega arith) (λ k d m ne. h (suc k) d (omega arith) (λ q. ne (omega (arith, q)))))
 
 pub filter_only : {X : Type 0} (p : X → Bool) (xs : List X) (i : ℕ) (e : X) → i < length xs → p (get_or xs i e) ≡ true → ((k : ℕ) (d : X) → k < length xs → k ≢ i → p (get_or xs k d) ≡ false) → filter p xs ≡ get_or xs i e ∷ []
 filter_only p [] i e l t h = absurd (omega arith)
@@ -67,6 +58,25 @@ by_test p f x xs false e h = rw e h
 pub filter_map_is : {X Y : Type 0} (p : Y → Bool) (f : X → Y) (xs : List X) → filter p (map f xs) ≡ map f (filter (λ x. p (f x)) xs)
 filter_map_is p f [] = refl
 filter_map_is p f (x ∷ xs) = by_test p f x xs (p (f x)) refl (filter_map_is p f xs)
+
+-- a filter within a wider one
+pub filter_within : {X : Type 0} (p q : X → Bool) (xs : List X) → ((x : X) → p x ≡ true → q x ≡ true) → filter p (filter q xs) ≡ filter p xs
+filter_within p q [] wider = refl
+filter_within p q (x ∷ xs) wider = elim (cases_Bool (p x)) [
+  | inl y ↦ rw (wider x y, y, filter_within p q xs wider) refl
+  | inr f ↦ elim (cases_Bool (q x)) [
+    | inl t ↦ rw (t, f, filter_within p q xs wider) refl
+    | inr n ↦ rw (n, f, filter_within p q xs wider) refl
+  ]
+]
+
+-- where a test holds of nothing, its opposite keeps everything
+pub filter_none_out : {X : Type 0} (p : X → Bool) (xs : List X) → filter p xs ≡ [] → filter (λ x. not (p x)) xs ≡ xs
+filter_none_out p [] none = refl
+filter_none_out p (x ∷ xs) none = elim (cases_Bool (p x)) [
+  | inl y ↦ let no : x ∷ filter p xs ≡ [] = rw y at none in cc
+  | inr f ↦ let rest : filter p xs ≡ [] = rw f at none in rw (f, filter_none_out p xs rest) refl
+]
 
 -- ---- places
 

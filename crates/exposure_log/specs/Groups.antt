@@ -1,11 +1,9 @@
 -- How the log keeps its exposures: each a list of numbers, whose detections stand in the slots.
-use Rattle.std.specs.Prelude.{◌≡◌, ◌≢◌, ℕ, ◌<◌, ◌≤◌, ◌==◌, ℤ, cond, Option, None, Some, List, [], ◌∷◌, length, slice_index, slice_index_or, ⊤, ◌⊎◌, Bool, not, ◌&&◌}
+use Rattle.std.specs.Prelude.{◌≡◌, ◌≢◌, ℕ, ◌<◌, ◌≤◌, ◌==◌, ℤ, cond, Option, None, Some, List, [], ◌∷◌, length, slice_index, slice_index_or, ⊤, ◌⊎◌}
 use Rattle.std.specs.List.{All, Contains, filter_map, list_any, sum_by}
 use Rattle.std.specs.Option.{option_map}
 use Rattle.std.specs.declared.cmp.Ordering.{Ordering}
 use Rattle.std.specs.declared.cmp.Ordering.TheVariants.{Less}
-use Rattle.std.specs.Int.Signed.{lt_z}
-use Rattle.sky_math.specs.Night.{night_at}
 use Rattle.std.specs.Ordering.{int_cmp, nat_cmp, ordering_then}
 use Rattle.std.specs.Cmp.Lexicographic.{slice_cmp}
 use Rattle.sky_units.specs.Ranges.{IsEpoch}
@@ -91,15 +89,3 @@ pub record IsFirstTaken (at : ℕ → Option Observation) (list : List Observati
   pub within : i < length list
   pub taken : IsTaken at list i
   pub earlier : NoneTaken at list i
-
--- a group stays by its place
-abbrev pub stays : (ℤ → List ℕ → Bool) → Group → Bool
-stays keep g = keep g.epoch g.site
-
--- the number is that of a group that leaves
-abbrev pub gone : (ℤ → List ℕ → Bool) → List Group → ℕ → Bool
-gone keep groups n = list_any (λ g. not (stays keep g) && list_any (λ k. k == n) g.numbers.items) groups
-
--- the places of a night and later
-abbrev pub keeps_night : ℤ → ℤ → ℤ → List ℕ → Bool
-keeps_night shift night epoch site = not (lt_z (night_at shift epoch) night)

@@ -3,6 +3,7 @@ pub mod IdNumbers
 pub mod Held
 pub mod Exposures
 pub mod Groups
+pub mod NightGroups
 pub mod Gathered
 pub mod Deliveries
 pub mod Laws

@@ -1,12 +1,12 @@
-ghost use Rattle.std.specs.Prelude.{◌≡◌, ◌≢◌, ℕ, ◌+◌, ◌-◌, ◌*◌, ◌^◌, ◌<◌, ◌≤◌, [], Some, IsSome, IfOk, IfErr, OnErr, length, slice_index, slice_index_or};
+ghost use Rattle.std.specs.Prelude.{◌≡◌, ◌≢◌, ◌==◌, ℕ, ◌+◌, ◌-◌, ◌*◌, ◌^◌, ◌<◌, ◌≤◌, [], cond, None, Some, IsSome, IfOk, IfErr, OnErr, length, slice_index, slice_index_or};
 ghost use Rattle.std.specs.Vec.{vec_len, vec_capacity};
-ghost use Rattle.std.specs.List.{insert as insert_at};
+ghost use Rattle.std.specs.List.{All, insert as insert_at, list_any, sum_by};
 ghost use Rattle.std.specs.List.Sorted.{IsPartitionPoint};
 ghost use Rattle.std.specs.declared.cmp.Ordering.TheVariants.{Less, Equal, Greater};
 ghost use Rattle.miti_text.specs.Observation.{Observation};
 ghost use Rattle.exposure_log.specs.Numbering.{slot, count_held, with_at, IsLeastFree};
 ghost use Rattle.exposure_log.specs.declared.groups.Group.{Group};
-ghost use Rattle.exposure_log.specs.Groups.{group_cmp, RiseStrictly, Takes, without_numbers, AreDistinct};
+ghost use Rattle.exposure_log.specs.Groups.{group_cmp, IsGroup, RiseStrictly, Takes, without_numbers, AreDistinct};
 
 use crate::numbering::Register;
 use miti_text::Detection;
@@ -52,17 +52,17 @@ pub(crate) fn insert(groups: &mut Vec<Group>, place: usize, group: Group)
 }
 
 /// A detection of the same fields.
-fn copy_of(alloc: Global, detection: &Detection) -> Result<Detection, NoMemory>
+fn copy_of(detection: &Detection) -> Result<Detection, NoMemory>
     ensures { IfOk result (λ copy. copy ≡ detection.now) }
 {
     Ok(Detection {
-        id: Word::new(alloc, detection.id.bytes())?,
+        id: detection.id.clone()?,
         epoch: detection.epoch,
         ra: detection.ra,
         dec: detection.dec,
         mag: detection.mag,
-        site: Word::new(alloc, detection.site.bytes())?,
-        name: Word::new(alloc, detection.name.bytes())?,
+        site: detection.site.clone()?,
+        name: detection.name.clone()?,
     })
 }
 
@@ -73,7 +73,7 @@ fn take_copy(register: &mut Register, alloc: Global, detection: &Detection) -> R
     ensures ok { IfOk result (λ n. IsLeastFree (slot register.old) n × (slot register.new ≡ with_at (slot register.old) n (Some detection.now)) × (count_held register.new ≡ count_held register.old + 1)) }
     ensures err { OnErr result (register.new ≡ register.old) }
 {
-    register.take_in(alloc, copy_of(alloc, detection)?)
+    register.take_in(alloc, copy_of(detection)?)
 }
 
 /// Takes copies of all these detections, or of none where memory is wanting.
@@ -112,5 +112,17 @@ pub(crate) fn let_go_all(register: &mut Register, numbers: &[u32])
 {
     for number in numbers {
         register.let_go(*number);
+    }
+}
+
+/// Lets go of the detections of all these groups. This takes no memory.
+pub(crate) fn let_go_groups(register: &mut Register, groups: &[Group])
+    requires order { RiseStrictly groups.now }
+    requires each { All (IsGroup register.old) groups.now }
+    ensures at { (n : ℕ) → slot register.new n ≡ cond (list_any (λ g. list_any (λ k. k == n) g.numbers.items) groups.now) None (slot register.old n) }
+    ensures count { count_held register.new + sum_by (λ g. length g.numbers.items) groups.now ≡ count_held register.old }
+{
+    for group in groups {
+        let_go_all(register, group.numbers.as_slice());
     }
 }

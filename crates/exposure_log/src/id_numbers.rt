@@ -1,8 +1,8 @@
-ghost use Rattle.std.specs.Prelude.{◌≡◌, ◌≢◌, ℕ, ◌<◌, [], true, false, None, Some, OnOk, MatchBool};
+ghost use Rattle.std.specs.Prelude.{◌≡◌, ◌≢◌, ℕ, List, [], true, false, None, Some, IfOk, MatchBool};
 ghost use Rattle.std.specs.HashMap.{spare};
 ghost use Rattle.miti_text.specs.Observation.{Observation};
 ghost use Rattle.exposure_log.specs.Numbering.{slot};
-ghost use Rattle.exposure_log.specs.IdNumbers.{id_hash, hash_step, under_hash, AreNumbers, Enters, Strikes};
+ghost use Rattle.exposure_log.specs.IdNumbers.{id_hash, hash_step, under_hash, AreNumbers, IsReady, Enters, Strikes};
 
 use indexmap::IndexMap;
 use miti_text::Detection;
@@ -18,6 +18,14 @@ const MULTIPLIER: u64 = 1_099_511_628_211;
 pub(crate) struct IdNumbers {
     pub(crate) by_hash: IndexMap<u64, u32>,
     pub(crate) by_id: IndexMap<Vec<u8>, u32>,
+}
+
+/// What a number is entered under: the hash of its id, or a copy of the id where another number
+/// stands under the hash.
+#[derive(Drop)]
+pub(crate) enum Key {
+    Hash(u64),
+    Id(Vec<u8>),
 }
 
 impl IdNumbers {
@@ -46,28 +54,35 @@ impl IdNumbers {
         self.by_id.get(id).copied()
     }
 
-    /// Makes room for one more id.
-    pub(crate) fn reserve(&mut self) -> Result<(), NoMemory>
+    /// What the number of this id is to be entered under, with room for it.
+    pub(crate) fn prepare(&mut self, alloc: Global, id: &[u8]) -> Result<Key, NoMemory>
         ensures hashes { self.new.by_hash.entries ≡ self.old.by_hash.entries }
         ensures ids { self.new.by_id.entries ≡ self.old.by_id.entries }
-        ensures ok { OnOk result ((0 < spare self.new.by_hash) × (0 < spare self.new.by_id)) }
+        ensures ready { IfOk result (λ key. IsReady self.new.by_hash.entries (spare self.new.by_hash) (spare self.new.by_id) id.now key) }
     {
-        self.by_hash.reserve(1)?;
-        self.by_id.reserve(1)?;
-        Ok(())
-    }
-
-    /// Enters the number of an id, for which there is room. This takes no memory.
-    pub(crate) fn enter(&mut self, id: Vec<u8>, number: u32)
-        requires { (0 < spare self.old.by_hash) × (0 < spare self.old.by_id) }
-        ensures { Enters self.old.by_hash.entries self.old.by_id.entries self.new.by_hash.entries self.new.by_id.entries id.items number }
-    {
-        let hash = hash_of(id.as_slice());
+        let hash = hash_of(id);
         match self.by_hash.get(&hash).copied() {
             None => {
-                let _ = self.by_hash.insert(hash, number);
+                self.by_hash.reserve(1)?;
+                Ok(Key::Hash(hash))
             }
             Some(_) => {
+                self.by_id.reserve(1)?;
+                Ok(Key::Id(Vec::from_slice(alloc, id)?))
+            }
+        }
+    }
+
+    /// Enters a number under what was prepared for its id. This takes no memory.
+    pub(crate) fn enter(&mut self, key: Key, number: u32)
+        requires { (id : List ℕ) × IsReady self.old.by_hash.entries (spare self.old.by_hash) (spare self.old.by_id) id key }
+        ensures { (id : List ℕ) → IsReady self.old.by_hash.entries (spare self.old.by_hash) (spare self.old.by_id) id key → Enters self.old.by_hash.entries self.old.by_id.entries self.new.by_hash.entries self.new.by_id.entries id number }
+    {
+        match key {
+            Key::Hash(hash) => {
+                let _ = self.by_hash.insert(hash, number);
+            }
+            Key::Id(id) => {
                 let _ = self.by_id.insert(id, number);
             }
         }

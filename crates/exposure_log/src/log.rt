@@ -1,21 +1,22 @@
-ghost use Rattle.std.specs.Prelude.{◌≡◌, ◌≢◌, ℕ, ℤ, ◌+◌, ◌^◌, ◌<◌, ◌≤◌, ◌<ℤ◌, pos, neg_ℤ, [], None, Some, IsSome, IfOk, IfErr, OnErr, OnOk, ◌++◌, false, cond, length, map, nat_le, nat_lt, not, option_copied};
-ghost use Rattle.std.specs.List.{filter, list_any, sum_by};
+ghost use Rattle.std.specs.Prelude.{◌≡◌, ◌≢◌, ℕ, ℤ, ◌+◌, ◌^◌, ◌<◌, ◌≤◌, ◌<ℤ◌, pos, neg_ℤ, [], None, Some, IsSome, IfOk, IfErr, OnErr, OnOk, ◌++◌, length, map, nat_le, nat_lt, option_copied};
+ghost use Rattle.std.specs.List.{list_any};
 ghost use Rattle.sky_math.specs.Night.{night_at};
 ghost use Rattle.std.specs.Ordering.{is_lt};
 ghost use Rattle.sky_units.specs.Ranges.{IsNightShift};
 ghost use Rattle.miti_text.specs.Observation.{Observation};
 ghost use Rattle.miti_text.specs.CanonicalOrder.{canonical_cmp};
-ghost use Rattle.exposure_log.specs.Groups.{NoneTaken, IsFirstTaken, AreGroups, stays, gone, keeps_night, entries_of, exposure_of};
-ghost use Rattle.exposure_log.specs.Numbering.{slot, count_held};
-ghost use Rattle.exposure_log.specs.Exposures.{IdsDontFall};
-ghost use Rattle.exposure_log.specs.Held.{LogData, Adds, CanBeHeld, IsFreePlace, Answers, refusal, held_refusal, room_refusal, held_at, detections_of, stands_at, without_exposure, window_refusal, moved, spots_of_night, spot_of, of_night, most_of_a_night, most_detections};
+ghost use Rattle.exposure_log.specs.Groups.{NoneTaken, IsFirstTaken, AreGroups, entries_of, exposure_of};
+ghost use Rattle.exposure_log.specs.NightGroups.{groups_of, IsPlaceFor};
+ghost use Rattle.exposure_log.specs.Numbering.{slot};
+ghost use Rattle.exposure_log.specs.Exposures.{IsExposure, IdsDontFall};
+ghost use Rattle.exposure_log.specs.Held.{LogData, Adds, CanBeHeld, Answers, refusal, held_refusal, room_refusal, held_at, detections_of, stands_at, without_exposure, from_night, window_refusal, moved, spots_of_night, spot_of, of_night, most_of_a_night, most_detections};
 ghost use Rattle.exposure_log.specs.declared.errors.AddError.TheVariants.{NoMemory as no_memory};
 
 use crate::canonical::compare;
 use crate::errors::{AddError, WindowError};
 use crate::exposures::Exposure;
-use crate::groups::{Group, insert, let_go_all, search, take_all};
-use crate::nights::{groups_of_night, lies_before};
+use crate::groups::{Group, let_go_all, let_go_groups, search, take_all};
+use crate::nights::{HeldNights, NightPlace};
 use crate::numbering::Register;
 use miti_text::Detection;
 use sky_units::{NoMemory, Spot, Word, night_of};
@@ -37,23 +38,23 @@ const MOST_DETECTIONS: usize = 1_048_576;
 #[derive(Drop)]
 pub struct ExposureLog {
     alloc: Global,
-    night_shift: i64,
     window: Option<(i64, i64)>,
     register: Register,
-    groups: Vec<Group>,
+    nights: HeldNights,
 }
 
 impl Model for ExposureLog {
-    ghost use Rattle.std.specs.Prelude.{map};
+    ghost use Rattle.std.specs.Prelude.{◌≡◌, map, None, []};
     ghost use Rattle.sky_units.specs.Ranges.{IsNightShift};
     ghost use Rattle.exposure_log.specs.Held.{LogData};
     ghost use Rattle.exposure_log.specs.Groups.{exposure_of, AreGroups};
+    ghost use Rattle.exposure_log.specs.NightGroups.{groups_of};
 
     ghost Value = { LogData };
 
-    ghost view = { λ log. record { night_shift = log.night_shift; window = log.window; exposures = map (exposure_of log.register) log.groups.items } };
+    ghost view = { λ log. record { night_shift = log.nights.shift; window = log.window; exposures = map (exposure_of log.register) (groups_of log.nights) } };
 
-    ghost invariant = { λ log. IsNightShift log.night_shift × AreGroups log.register log.groups.items };
+    ghost invariant = { λ log. IsNightShift log.nights.shift × AreGroups log.register (groups_of log.nights) × (log.window ≡ None → groups_of log.nights ≡ []) };
 }
 
 impl ExposureLog {
@@ -64,10 +65,9 @@ impl ExposureLog {
     {
         Ok(ExposureLog {
             alloc,
-            night_shift,
             window: None,
             register: Register::new(alloc),
-            groups: Vec::new(alloc),
+            nights: HeldNights::new(alloc, night_shift),
         })
     }
 
@@ -78,7 +78,7 @@ impl ExposureLog {
         requires early { self.old.window ≡ None }
         ensures { self.new ≡ record self.old { night_shift = night_shift } }
     {
-        self.night_shift = night_shift;
+        self.nights = HeldNights::new(self.alloc, night_shift);
     }
 
     /// The first and the last night of the window, if one was set.
@@ -120,10 +120,9 @@ impl ExposureLog {
         ensures found { result ≡ list_any (stands_at epoch site.now) self.old.exposures }
         ensures rest { self.new ≡ record self.old { exposures = without_exposure epoch site.now self.old.exposures } }
     {
-        let Ok(place) = search(self.groups.as_slice(), epoch, site) else {
+        let Some(group) = self.nights.take(epoch, site) else {
             return false;
         };
-        let group = self.groups.remove(place);
         let_go_all(&mut self.register, group.numbers.as_slice());
         true
     }
@@ -133,20 +132,22 @@ impl ExposureLog {
     pub fn add(&mut self, exposure: &Exposure) -> Result<u32, AddError>
         ensures ok { IfOk result (λ n. (refusal self.old exposure.now ≡ None) × (n ≡ length exposure.now.detections) × Adds self.old self.new exposure.now) }
         ensures err { IfErr result (λ e. (self.new ≡ self.old) × (e ≢ no_memory → refusal self.old exposure.now ≡ Some e)) }
+        ensures keeps { IfOk result (λ _. IsExposure exposure.now) }
     {
         let place = self.place_for(exposure)?;
         Ok(self.put(place, exposure)?)
     }
 
-    /// The place of the exposure among the groups, or the first cause for which the log doesn't take it.
-    fn place_for(&self, exposure: &Exposure) -> Result<usize, AddError>
-        ensures place { IfOk result (λ place. (refusal self.now exposure.now ≡ None) × CanBeHeld self.now exposure.now × IsFreePlace exposure.now.epoch exposure.now.site self.now.exposures place) }
+    /// The place of the exposure in its night, or the first cause for which the log doesn't take it.
+    fn place_for(&self, exposure: &Exposure) -> Result<NightPlace, AddError>
+        ensures place { IfOk result (λ place. (refusal self.now exposure.now ≡ None) × CanBeHeld self.now exposure.now × IsPlaceFor self.now exposure.now place) }
+        ensures window { IfOk result (λ _. IsSome self.now.window) }
         ensures cause { IfErr result (λ e. refusal self.now exposure.now ≡ Some e) }
     {
         let Some((lo, hi)) = self.window else {
             return Err(AddError::NoWindow);
         };
-        let night = night_of(exposure.epoch(), self.night_shift);
+        let night = night_of(exposure.epoch(), self.nights.shift());
         if night < lo {
             return Err(AddError::Old);
         }
@@ -157,13 +158,13 @@ impl ExposureLog {
     }
 
     /// The same for an exposure whose night lies in the window.
-    fn place_in_window(&self, exposure: &Exposure, night: i64) -> Result<usize, AddError>
+    fn place_in_window(&self, exposure: &Exposure, night: i64) -> Result<NightPlace, AddError>
         requires { night ≡ night_at self.now.night_shift exposure.now.epoch }
-        ensures place { IfOk result (λ place. (held_refusal self.now exposure.now ≡ None) × CanBeHeld self.now exposure.now × IsFreePlace exposure.now.epoch exposure.now.site self.now.exposures place) }
+        ensures place { IfOk result (λ place. (held_refusal self.now exposure.now ≡ None) × CanBeHeld self.now exposure.now × IsPlaceFor self.now exposure.now place) }
         ensures cause { IfErr result (λ e. held_refusal self.now exposure.now ≡ Some e) }
     {
         let epoch = exposure.epoch();
-        let Err(place) = search(self.groups.as_slice(), epoch, exposure.site()) else {
+        let Err(index) = search(self.nights.of_night(night), epoch, exposure.site()) else {
             return Err(AddError::Held);
         };
         if let Some(at) = first_taken(&self.register, exposure.detections()) {
@@ -172,7 +173,7 @@ impl ExposureLog {
         if let Some(error) = self.refuses_for_room(exposure, night) {
             return Err(error);
         }
-        Ok(place)
+        Ok(NightPlace { night, index })
     }
 
     /// Why the log has no room for an exposure.
@@ -194,7 +195,7 @@ impl ExposureLog {
     fn is_night_full(&self, night: i64) -> bool
         ensures { result ≡ nat_le most_of_a_night (length (of_night self.now.night_shift night self.now.exposures)) }
     {
-        groups_of_night(self.groups.as_slice(), self.night_shift, night).len() >= MOST_OF_A_NIGHT
+        self.nights.of_night(night).len() >= MOST_OF_A_NIGHT
     }
 
     /// Whether the log doesn't hold so many more detections.
@@ -205,23 +206,25 @@ impl ExposureLog {
         self.detections() as usize + more > MOST_DETECTIONS
     }
 
-    /// Holds an exposure that nothing refuses, at its place among the groups.
-    fn put(&mut self, place: usize, exposure: &Exposure) -> Result<u32, NoMemory>
+    /// Holds an exposure that nothing refuses, at its place in its night.
+    fn put(&mut self, place: NightPlace, exposure: &Exposure) -> Result<u32, NoMemory>
+        requires window { IsSome self.old.window }
         requires free { CanBeHeld self.old exposure.now }
-        requires place { IsFreePlace exposure.now.epoch exposure.now.site self.old.exposures place }
+        requires place { IsPlaceFor self.old exposure.now place }
         ensures ok { IfOk result (λ n. (n ≡ length exposure.now.detections) × Adds self.old self.new exposure.now) }
         ensures err { OnErr result (self.new ≡ self.old) }
+        ensures keeps { IsExposure exposure.now }
     {
         let epoch = exposure.epoch();
         let site = Word::new(self.alloc, exposure.site())?;
-        self.groups.reserve(1)?;
+        self.nights.make_room(self.alloc, place.night)?;
         let numbers = take_all(&mut self.register, self.alloc, exposure.detections())?;
         let group = Group {
             epoch,
             site,
             numbers,
         };
-        insert(&mut self.groups, place, group);
+        self.nights.insert(place, group);
         Ok(exposure.detections().len() as u32)
     }
 
@@ -231,10 +234,7 @@ impl ExposureLog {
         requires { window_refusal self.old.window lo hi ≡ None }
         ensures { self.new ≡ moved self.old lo hi }
     {
-        let shift = self.night_shift;
-        forget_before(&mut self.register, self.groups.as_slice(), shift, lo);
-        self.groups
-            .retain(|group| !lies_before(group.epoch, shift, lo));
+        forget_before(&mut self.register, &mut self.nights, lo);
         self.window = Some((lo, hi));
     }
 
@@ -242,18 +242,14 @@ impl ExposureLog {
     pub fn night(&self, night: i64) -> Result<Vec<Spot>, NoMemory>
         ensures { IfOk result (λ spots. spots.items ≡ spots_of_night self.now night) }
     {
-        spots_of(
-            self.alloc,
-            &self.register,
-            groups_of_night(self.groups.as_slice(), self.night_shift, night),
-        )
+        spots_of(self.alloc, &self.register, self.nights.of_night(night))
     }
 
     /// How many exposures are held.
     pub fn exposures(&self) -> u32
         ensures { result ≡ length self.now.exposures }
     {
-        self.groups.len() as u32
+        self.nights.len() as u32
     }
 
     /// How many detections are held.
@@ -312,16 +308,15 @@ fn first_taken(register: &Register, detections: &[Detection]) -> Option<u32>
     None
 }
 
-/// Lets go of the detections of all groups whose night lies before a night. This takes no memory.
-fn forget_before(register: &mut Register, groups: &[Group], shift: i64, night: i64)
-    requires { AreGroups register.old groups.now }
-    ensures at { (n : ℕ) → slot register.new n ≡ cond (gone (keeps_night shift night) groups.now n) None (slot register.old n) }
-    ensures count { count_held register.new + sum_by (λ g. length g.numbers.items) (filter (λ g. not (stays (keeps_night shift night) g)) groups.now) ≡ count_held register.old }
+/// Forgets the groups whose night lies before a night. This takes no memory.
+fn forget_before(register: &mut Register, nights: &mut HeldNights, night: i64)
+    requires { AreGroups register.old (groups_of nights.old) }
+    ensures shift { nights.new.shift ≡ nights.old.shift }
+    ensures groups { AreGroups register.new (groups_of nights.new) }
+    ensures exposures { map (exposure_of register.new) (groups_of nights.new) ≡ from_night nights.old.shift night (map (exposure_of register.old) (groups_of nights.old)) }
 {
-    for group in groups {
-        if lies_before(group.epoch, shift, night) {
-            let_go_all(register, group.numbers.as_slice());
-        }
+    while let Some(groups) = nights.take_before(night) {
+        let_go_groups(register, groups.as_slice());
     }
 }
 

@@ -77,12 +77,11 @@ impl Register {
         ensures ok { IfOk result (λ n. IsLeastFree (slot self.old) n × (slot self.new ≡ with_at (slot self.old) n (Some detection)) × (count_held self.new ≡ count_held self.old + 1)) }
         ensures err { OnErr result (self.new ≡ self.old) }
     {
-        let id = Vec::from_slice(alloc, detection.id.bytes())?;
-        self.ids.reserve()?;
+        let key = self.ids.prepare(alloc, detection.id.bytes())?;
         make_room(&mut self.slots, &mut self.free)?;
         let number = least_free(&mut self.free, self.slots.as_slice());
         put(&mut self.slots, number as usize, detection);
-        self.ids.enter(id, number);
+        self.ids.enter(key, number);
         Ok(number)
     }
 
@@ -94,6 +93,8 @@ impl Register {
     {
         if let Some(detection) = self.slots[number as usize].take() {
             self.ids.strike(detection.id.bytes(), number);
+            // Dropped by a call, so that the words' memory makes no cases in this proof.
+            drop(detection);
             let _ = self.free.push(Reverse(number));
         }
     }

@@ -1,21 +1,34 @@
-use Rattle.std.proofs.Common.{◌≡◌, Some, None, inl, inr, refl, sym, ap, ◌∙◌}
-use Rattle.exposure_log.specs.IdNumbers.{id_hash, under_hash}
+use Rattle.std.proofs.Common.{◌≡◌, ◌<◌, ℕ, List, Option, Some, None, IsSome, inl, inr, refl}
+use Rattle.std.specs.Global.{Vec}
+use Rattle.exposure_log.specs.declared.id_numbers.Key.{Key}
+use Rattle.exposure_log.specs.declared.id_numbers.Key.TheVariants.{Hash, Id}
+use Rattle.exposure_log.specs.IdNumbers.{id_hash, under_hash, IsReady}
 use Rattle.exposure_log.proofs.Answered.{on_ok}
 use Rattle.exposure_log.proofs.Ids.{hash_changed, id_changed}
 use Rattle.exposure_log.proofs.id_numbers.IdNumbers.enter.Goals as goal
 
-pub returns-in-None : goal.returns-in-None
-returns-in-None c =
-    let hash : c.hash_of-hash.result ≡ id_hash c.args.id.items = c.hash_of-hash.ensures ∙ ap id_hash c.as_slice.ensures.value in
-    let absent : under_hash c.args.self.now.by_hash.entries c.hash_of-hash.result ≡ None = sym c.get.ensures.value ∙ (sym c.copied.ensures ∙ c.in-None.is) in
-    let room = c.insert.ensures.succeeds c.requires.0 in
-    let says = hash_changed c.args.self.now.by_hash c.insert.new.self c.hash_of-hash.result (Some c.args.number) (on_ok c.insert.result room c.insert.ensures.updates) in
-    inl (rw hash at absent, rw hash at says, refl)
+-- the number that stands where some number does
+there : (found : Option ℕ) → IsSome found → (m : ℕ) × (found ≡ Some m)
+there (Some m) h = (m, refl)
+there None h = absurd (let no = h in cc)
 
-pub returns-in-Some : goal.returns-in-Some
-returns-in-Some c =
-    let hash : c.hash_of-hash.result ≡ id_hash c.args.id.items = c.hash_of-hash.ensures ∙ ap id_hash c.as_slice.ensures.value in
-    let taken : under_hash c.args.self.now.by_hash.entries c.hash_of-hash.result ≡ Some c.in-Some.field-0 = sym c.get.ensures.value ∙ (sym c.copied.ensures ∙ c.in-Some.is) in
-    let room = c.insert-in-Some.ensures.succeeds c.requires.1 in
-    let says = id_changed c.args.self.now.by_id c.insert-in-Some.new.self c.args.id.items (Some c.args.number) (on_ok c.insert-in-Some.result room c.insert-in-Some.ensures.updates) in
-    inr (c.in-Some.field-0, rw hash at taken, refl, says)
+as_hash : (hashes : List (ℕ × ℕ)) (a b : ℕ) (id : List ℕ) (key : Key) (h : ℕ) → key ≡ Hash h → IsReady hashes a b id key → (h ≡ id_hash id) × (under_hash hashes h ≡ None) × (0 < a)
+as_hash hashes a b id key h e r = rw e at r
+
+as_id : (hashes : List (ℕ × ℕ)) (a b : ℕ) (id : List ℕ) (key : Key) (word : Vec ℕ) → key ≡ Id word → IsReady hashes a b id key → (word.items ≡ id) × IsSome (under_hash hashes (id_hash id)) × (0 < b)
+as_id hashes a b id key word e r = rw e at r
+
+pub returns-in-Hash : goal.returns-in-Hash
+returns-in-Hash c = λ id given.
+    let ready = as_hash c.args.self.now.by_hash.entries _ _ id c.args.key c.in-Hash.hash c.in-Hash.is given in
+    let room = c.insert.ensures.succeeds ready.2 in
+    let says = hash_changed c.args.self.now.by_hash c.insert.new.self c.in-Hash.hash (Some c.args.number) (on_ok c.insert.result room c.insert.ensures.updates) in
+    inl (rw ready.0 at ready.1, rw ready.0 at says, refl)
+
+pub returns-in-Id : goal.returns-in-Id
+returns-in-Id c = λ id given.
+    let ready = as_id c.args.self.now.by_hash.entries _ _ id c.args.key c.in-Id.id c.in-Id.is given in
+    let room = c.insert-in-Id.ensures.succeeds ready.2 in
+    let says = id_changed c.args.self.now.by_id c.insert-in-Id.new.self c.in-Id.id.items (Some c.args.number) (on_ok c.insert-in-Id.result room c.insert-in-Id.ensures.updates) in
+    let taken = there _ ready.1 in
+    inr (taken.0, taken.1, refl, rw ready.0 at says)

@@ -23,8 +23,8 @@ invariant_of-self-2 c =
     let read : c.as_slice.result.now ≡ c.self.inside.slots.items = c.as_slice.ensures.value ∙ items in
     let least : IsLeastFree (slot c.self.inside.slots.items) c.least_free-number.result = rw read at c.least_free-number.ensures.least in
     let within : c.least_free-number.result ≤ length c.self.inside.slots.items = rw read at c.least_free-number.ensures.within in
-    let named : c.in_ok-id.id.items ≡ c.args.detection.id = c.in_ok-id.ensures.items ∙ (c.bytes.ensures ∙ ap (λ (x : Observation). x.id) c.detection.view_is) in
-    let entered = rw (named, c.in_ok-reserve.ensures.hashes, c.in_ok-reserve.ensures.ids) at c.enter.ensures in
+    let named : c.bytes.result.now ≡ c.args.detection.id = c.bytes.ensures ∙ ap (λ (x : Observation). x.id) c.detection.view_is in
+    let entered = rw (named, c.in_ok-key.ensures.hashes, c.in_ok-key.ensures.ids) at (c.enter.ensures c.bytes.result.now c.in_ok-key.ensures.ready) in
     let free : AreFree (put_at c.self.inside.slots.items c.least_free-number.result (Some c.args.detection)) (heap_items c.least_free-number.new.free) =
     rw read at (c.least_free-number.ensures.rest c.args.detection) in
     let numbers : AreNumbers (put_at c.self.inside.slots.items c.least_free-number.result (Some c.args.detection)) c.enter.new.self.by_hash.entries c.enter.new.self.by_id.entries =
