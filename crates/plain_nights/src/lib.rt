@@ -4,7 +4,7 @@
 
 pub use laws::nights_follow;
 pub use pairing::tracklets;
-pub use windows::report;
+pub use windows::{night_count, nights, report};
 
 mod laws;
 mod pairing;

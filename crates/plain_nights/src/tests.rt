@@ -2,7 +2,7 @@ ghost use Rattle.std.specs.Prelude.{◌≡◌, pos};
 ghost use Rattle.sky_units.specs.Nights.{AreNumbered};
 ghost use Rattle.sky_units.specs.Ranges.{IsBetween};
 
-use crate::{report, tracklets};
+use crate::{night_count, nights, report, tracklets};
 use sky_units::{NoMemory, Settings, Spot, TrackSet, Tracklet};
 use std::alloc::Global;
 
@@ -66,5 +66,23 @@ fn one_track_of_three_nights(rt: HostRuntime) -> Result<(), NoMemory> {
     let lists = numbers_of_each(rt.alloc(), list.as_slice())?;
     assert_eq!(rt; lists.len(), 1);
     assert_eq!(rt; lists[0].as_slice(), [0, 1, 2, 3, 4, 5].as_slice());
+    Ok(())
+}
+
+#[test]
+fn nights_of_a_window(rt: HostRuntime) -> Result<(), NoMemory> {
+    assert_eq!(rt; night_count((59_000, 59_000)), 1);
+    assert_eq!(rt; night_count((59_000, 59_015)), 16);
+    let spots = three_nights();
+    let settings = Settings::standard();
+    // A night before all spots, and two of the three that have spots.
+    let nights = nights(rt.alloc(), &spots, (58_999, 59_001), &settings)?;
+    assert_eq!(rt; nights.len(), 3);
+    let before = numbers(rt.alloc(), nights[0].as_slice())?;
+    assert!(rt; before.is_empty());
+    let first = numbers(rt.alloc(), nights[1].as_slice())?;
+    assert_eq!(rt; first.as_slice(), [0, 1].as_slice());
+    let second = numbers(rt.alloc(), nights[2].as_slice())?;
+    assert_eq!(rt; second.as_slice(), [2, 3].as_slice());
     Ok(())
 }

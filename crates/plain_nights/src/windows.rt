@@ -30,16 +30,21 @@ pub fn report(
     report_list(alloc, nights.as_slice(), settings, &mut tally)
 }
 
-/// How many nights a window has.
-fn night_count(window: (i64, i64)) -> usize
+/// How many nights a window has, from its first to its last.
+///
+/// The window has one to sixteen nights.
+pub fn night_count(window: (i64, i64)) -> usize
     requires { IsWindow window }
     ensures { result ≡ number_of_nights window }
 {
     (window.1 - window.0) as usize + 1
 }
 
-/// The nights of a window in order of time, each with its tracklets.
-fn nights(
+/// The nights of a window in order of time, from its first to its last, each with the tracklets that
+/// the held spots make in it, in the order of their pairs.
+///
+/// `spots` are fewer than 2^32, of epochs that don't fall; the window has one to sixteen nights.
+pub fn nights(
     alloc: Global,
     spots: &[Spot],
     window: (i64, i64),

@@ -15,8 +15,8 @@ use Rattle.miti_text.specs.Observation.{Observation}
 use Rattle.exposure_log.specs.Held.{LogData, HeldExposure, detections_of, of_night, spot_of, spots_of_night}
 use Rattle.window_incr.specs.Orderly.{AreOfOneEpoch, IsOrderly}
 use Rattle.window_incr.specs.Ranks.{numbered_from, ranked_spots}
-use Rattle.window_incr.proofs.Steps.{take_one_more}
 use Rattle.plain_nights.proofs.EachTwoOf.{each_two_head, each_two_tail, each_two_append}
+use Rattle.plain_tracks.proofs.Steps.{taken}
 
 abbrev Entry : Type 0
 Entry = ℕ × Observation
@@ -103,9 +103,9 @@ night_in_order log night o =
 pub count_so_far : (xs ys zs : List SpotData) (n i : ℕ) → zs ≡ xs ++ numbered_from n (take i ys) → i ≤ length ys → length zs ≡ length xs + i
 count_so_far xs ys zs n i e h = omega (arith, ap length e, length-append xs (numbered_from n (take i ys)), length_numbered n (take i ys), length-take-le i ys h)
 
-pub one_more_spot : (xs ys : List SpotData) (i : ℕ) (s : SpotData) → i < length ys → get_or ys i s ≡ s → (xs ++ numbered_from (length xs) (take i ys)) ++ record s { num = length xs + i } ∷ [] ≡ xs ++ numbered_from (length xs) (take (i + 1) ys)
+pub one_more_spot : (xs ys : List SpotData) (i : ℕ) (s : SpotData) → i < length ys → s ≡ get_or ys i s → (xs ++ numbered_from (length xs) (take i ys)) ++ record s { num = length xs + i } ∷ [] ≡ xs ++ numbered_from (length xs) (take (i + 1) ys)
 one_more_spot xs ys i s h same =
-    let more : take (i + 1) ys ≡ take i ys ++ s ∷ [] = take_one_more ys i s h same in
+    let more : take (i + 1) ys ≡ take i ys ++ s ∷ [] = taken ys i s h same in
     let split : numbered_from (length xs) (take (i + 1) ys) ≡ numbered_from (length xs) (take i ys) ++ numbered_from (length xs + length (take i ys)) (s ∷ []) = ap (numbered_from (length xs)) more ∙ numbered_append (length xs) (take i ys) (s ∷ []) in
     let place : length (take i ys) ≡ i = length-take-le i ys (omega arith) in
     append_assoc xs (numbered_from (length xs) (take i ys)) (record s { num = length xs + i } ∷ [])

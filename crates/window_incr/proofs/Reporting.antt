@@ -30,14 +30,19 @@ few_chosen (night ∷ nights) set h = elim h [
   | inr a ↦ (let rest = few_chosen nights a.1 a.4 in omega (arith, rest, ap length a.3))
 ]
 
+-- a window has few nights
+pub few_in_window : (settings : SettingsData) (window : ℤ × ℤ) (spots : List SpotData) → IsWindow window → length (nights_of settings window spots) ≤ 16
+few_in_window settings window spots w =
+    let nights = length-map-range_with_len (λ i. tracklets_of_night settings (window.0 +ℤ pos i) spots) 0 (number_of_nights window) in
+    let few = few_nights window.0 window.1 w.from w.short in
+    omega (arith, nights, few)
+
 pub few_listed : (settings : SettingsData) (window : ℤ × ℤ) (spots : List SpotData) (list : List (List (List SpotData))) → IsWindow window → IsReportList settings (nights_of settings window spots) list
     → All (λ set. length set < 4294967296) list
 few_listed settings window spots list w report = λ k d kn.
     let m = (report.listed (get_or list k d)).0 (Contains-get_or list k d kn) in
     let few = few_chosen (nights_of settings window spots) (get_or list k d) m.track.fitting.choice in
-    let nights = length-map-range_with_len (λ i. tracklets_of_night settings (window.0 +ℤ pos i) spots) 0 (number_of_nights window) in
-    let short = few_nights window.0 window.1 w.from w.short in
-    omega (arith, few, nights, short)
+    omega (arith, few, few_in_window settings window spots w)
 
 -- without a window there are no nights, and so no tracks
 pub none_listed : (l : LinkerData) → l.log.window ≡ None → IsReportList l.settings (linker_nights l) []

@@ -1,14 +1,12 @@
 //! The held detections, ranked in canonical order.
-ghost use Rattle.std.specs.Prelude.{◌≡◌, ◌+◌, ◌<◌, ◌^◌, ◌++◌, OnOk, IfOk, length, map, slice_get, sum_by};
-ghost use Rattle.sky_units.specs.Nights.{tracklets_of_night, nights_of, number_of_nights, IsWindow};
-ghost use Rattle.sky_units.specs.Pairs.{EpochsDontFall};
+ghost use Rattle.std.specs.Prelude.{◌≡◌, ◌+◌, ◌<◌, ◌^◌, ◌++◌, OnOk, IfOk, length, map, slice_get};
 ghost use Rattle.window_incr.specs.Orderly.{IsOrderly};
 ghost use Rattle.window_incr.specs.Ranks.{numbered_from, id_at, id_of_number};
 ghost use Rattle.window_incr.specs.Rankings.{IsRankingOf};
 
 use exposure_log::ExposureLog;
-use plain_nights::tracklets;
-use sky_units::{NoMemory, Settings, Spot, Word};
+use plain_nights::night_count;
+use sky_units::{NoMemory, Spot, Word};
 use std::alloc::Global;
 
 /// The held detections in canonical order: where each stands, numbered by its place, and the log's
@@ -88,41 +86,6 @@ impl Ranking {
             None => Word::new(alloc, &[]),
         }
     }
-
-    /// The number of tracklets of all nights of a window.
-    pub(crate) fn count_tracklets(
-        &self,
-        alloc: Global,
-        window: (i64, i64),
-        settings: &Settings,
-    ) -> Result<u64, NoMemory>
-        requires few { length self.now.spots.items < 2 ^ 32 }
-        requires order { EpochsDontFall self.now.spots.items }
-        requires window { IsWindow window }
-        ensures { IfOk result (λ count. count ≡ sum_by length (nights_of settings.now window self.now.spots.items)) }
-    {
-        let mut count = 0;
-        for i in 0..night_count(window) {
-            count += self.count_of_night(alloc, window.0 + i as i64, settings)?;
-        }
-        Ok(count)
-    }
-
-    /// The number of tracklets of a night.
-    fn count_of_night(
-        &self,
-        alloc: Global,
-        night: i64,
-        settings: &Settings,
-    ) -> Result<u64, NoMemory>
-        requires few { length self.now.spots.items < 2 ^ 32 }
-        requires order { EpochsDontFall self.now.spots.items }
-        ensures count { IfOk result (λ count. count ≡ length (tracklets_of_night settings.now night self.now.spots.items)) }
-        ensures small { IfOk result (λ count. count < 2 ^ 59) }
-    {
-        let found = tracklets(alloc, self.spots(), night, settings)?;
-        Ok(found.as_slice().len() as u64)
-    }
 }
 
 /// The id of the held detection of a number. It is empty where there is none.
@@ -130,15 +93,7 @@ pub(crate) fn id_of(alloc: Global, log: &ExposureLog, number: u32) -> Result<Wor
     ensures { IfOk result (λ id. id ≡ id_of_number log.now number) }
 {
     match log.detection(number) {
-        Some(detection) => Word::new(alloc, detection.id.bytes()),
+        Some(detection) => detection.id.clone(),
         None => Word::new(alloc, &[]),
     }
-}
-
-/// How many nights a window has.
-fn night_count(window: (i64, i64)) -> usize
-    requires { IsWindow window }
-    ensures { result ≡ number_of_nights window }
-{
-    (window.1 - window.0) as usize + 1
 }

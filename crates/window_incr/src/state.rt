@@ -1,5 +1,5 @@
 //! The linker's state and its calls.
-ghost use Rattle.std.specs.Prelude.{◌≡◌, ◌≢◌, ◌<ℤ◌, ◌^◌, pos, neg_ℤ, None, Some, Ok, Err, [], length, IfOk, IfErr, OnOk, OnErr};
+ghost use Rattle.std.specs.Prelude.{◌≡◌, ◌≢◌, ◌<ℤ◌, ◌≤◌, ◌^◌, pos, neg_ℤ, None, Some, Ok, Err, [], length, map, sum_by, IfOk, IfErr, OnOk, OnErr};
 ghost use Rattle.sky_units.specs.SettingNames.{set_named};
 ghost use Rattle.exposure_log.specs.Held.{Adds, Answers, refusal, window_refusal, moved};
 ghost use Rattle.exposure_log.specs.declared.errors.AddError.TheVariants.{NoMemory as no_memory};
@@ -9,8 +9,9 @@ ghost use Rattle.window_incr.specs.Answers.{tracklet_ids, IsReport, AreStats};
 use crate::answers::{groups_of, tracks_of};
 use crate::ranking::Ranking;
 use exposure_log::{AddError, Exposure, ExposureLog, WindowError};
-use plain_nights::{report, tracklets};
-use sky_units::{Groups, NoMemory, Report, SetError, Settings, Stats, Tally, Tracks};
+use plain_nights::{nights, report, tracklets};
+use plain_tracks::report_list;
+use sky_units::{Groups, NoMemory, Report, SetError, Settings, Stats, Tally, Tracklet, Tracks};
 use std::alloc::Global;
 use std::marker::Model;
 
@@ -44,6 +45,19 @@ fn changed(settings: &Settings, name: &[u8], value: i64) -> Result<Settings, Set
     let mut changed = *settings;
     changed.set(name, value)?;
     Ok(changed)
+}
+
+/// The number of tracklets of all of some nights, of which there are at most sixteen.
+fn tracklet_count(nights: &[Vec<Tracklet>]) -> u64
+    requires { length nights.now ≤ 16 }
+    ensures { result ≡ sum_by length (map (λ night. night.items) nights.now) }
+{
+    let mut count = 0;
+    for night in nights {
+        // A slice has fewer than 2^63 bytes, which keeps the lengths of sixteen of them below 2^63.
+        count += night.as_slice().len() as u64;
+    }
+    count
 }
 
 impl Linker {
@@ -84,8 +98,6 @@ impl Linker {
         ensures err { OnErr result (self.new ≡ self.old) }
         ensures tally { tally.new ≡ tally.old }
     {
-        // The detections are of the exposure's epoch, which keeps the log in order.
-        let _epoch = exposure.epoch();
         self.log.add(exposure)
     }
 
@@ -152,12 +164,13 @@ impl Linker {
             });
         };
         let ranking = Ranking::of(self.alloc, &self.log)?;
-        let tracklets = ranking.count_tracklets(self.alloc, window, &self.settings)?;
-        let list = report(self.alloc, ranking.spots(), window, &self.settings)?;
+        let nights = nights(self.alloc, ranking.spots(), window, &self.settings)?;
+        let mut tally = Tally::zero();
+        let list = report_list(self.alloc, nights.as_slice(), &self.settings, &mut tally)?;
         Ok(Stats {
             exposures,
             detections,
-            tracklets,
+            tracklets: tracklet_count(nights.as_slice()),
             tracks: list.len() as u64,
         })
     }

@@ -1,4 +1,4 @@
-use Rattle.std.proofs.Common.{◌≡◌, ℕ, ◌+◌, ℤ, w64, rules, [], ◌∷◌, ◌++◌, length, get_or, sym, ap, ◌∙◌, arith}
+use Rattle.std.proofs.Common.{◌≡◌, ℕ, ◌+◌, ℤ, w64, rules, [], ◌∷◌, ◌++◌, length, ap, ◌∙◌, arith}
 use mir.Facts.{to_z-of_z}
 use mir.Val.{SFits}
 use Rattle.sky_units.specs.SpotData.{SpotData}
@@ -21,7 +21,6 @@ loop-spot-preserved c =
     let h = c.loop-spot.invariant in
     let ok = c.loop-spot.self.spots.ok in
     let k = count_so_far c.args.self.now.spots.items c.args.night.now c.loop-spot.self.spots.items (length c.args.self.now.spots.items) c.loop-spot.spot-index h.spots (omega arith) in
-    let same : get_or c.args.night.now c.loop-spot.spot-index c.spot-item.result ≡ c.spot-item.result = sym c.spot-item.is in
     let place : c.len-place.result ≡ length c.args.self.now.spots.items + c.loop-spot.spot-index = omega (arith, k, c.len-place.ensures) in
     let fits_epoch : SFits w64 c.spot.inside.epoch = search rules in
     let fits_ra : SFits w64 c.spot.inside.ra = search rules in
@@ -31,6 +30,6 @@ loop-spot-preserved c =
     ap (λ (n : ℕ). spot_at n c.spot.inside.epoch c.spot.inside.ra c.spot.inside.dec) place ∙ ap (λ (s : SpotData). record s { num = length c.args.self.now.spots.items + c.loop-spot.spot-index }) c.spot.view_is in
     let number : c.spot.inside.num ≡ c.spot-item.result.num = ap (λ (s : SpotData). s.num) c.spot.view_is in
     record {
-      spots = pushed ∙ rw (placed, h.spots) (one_more_spot c.args.self.now.spots.items c.args.night.now c.loop-spot.spot-index c.spot-item.result c.loop-spot-test.true same);
-      numbers = c.in_ok-push-2.ensures.items ∙ rw (number, h.numbers) (map_one_more (λ (t : SpotData). t.num) c.args.self.now.numbers.items c.args.night.now c.loop-spot.spot-index c.spot-item.result c.loop-spot-test.true same);
+      spots = pushed ∙ rw (placed, h.spots) (one_more_spot c.args.self.now.spots.items c.args.night.now c.loop-spot.spot-index c.spot-item.result c.loop-spot-test.true c.spot-item.is);
+      numbers = c.in_ok-push-2.ensures.items ∙ rw (number, h.numbers) (map_one_more (λ (t : SpotData). t.num) c.args.self.now.numbers.items c.args.night.now c.loop-spot.spot-index c.spot-item.result c.loop-spot-test.true c.spot-item.is);
     }
