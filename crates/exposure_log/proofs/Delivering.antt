@@ -1,12 +1,11 @@
 -- A delivery has exposures, and only one list of them.
-use Rattle.std.proofs.Common.{◌≡◌, List, get_or, refl, sym, ap, ◌∙◌}
-use Rattle.std.specs.List.{All, AllPairs}
+use Rattle.std.proofs.Common.{◌≡◌, List, refl, sym, ap, ◌∙◌}
+use Rattle.std.specs.List.{AllPairs}
 use Rattle.miti_text.specs.Observation.{Observation}
 use Rattle.miti_text.specs.CanonicalOrder.{canonical_cmp}
 use Rattle.exposure_log.specs.Held.{ExposureData}
-use Rattle.exposure_log.specs.Exposures.{IsExposure}
-use Rattle.exposure_log.specs.Gathered.{IsGathered, NotAfter}
-use Rattle.exposure_log.specs.Deliveries.{IsOneExposure, AreExposuresOf}
+use Rattle.exposure_log.specs.Gathered.{NotAfter}
+use Rattle.exposure_log.specs.Deliveries.{AreExposuresOf}
 use Rattle.exposure_log.proofs.Sorting.{canonical_total}
 use Rattle.exposure_log.proofs.StableSort.{sorted, sorted_rises, sorted_permutes, sorted_is_stable, same_sorted}
 use Rattle.exposure_log.proofs.Cutting.{cut, joined, cut_joined, cut_each, cut_in_order, cut_again, joined_rises}
@@ -18,8 +17,8 @@ same_joined list one other p q =
     (joined_rises one p.gathered.in_order p.each) (joined_rises other q.gathered.in_order q.each)
     (λ x. p.gathered.stable x ∙ sym (q.gathered.stable x))
 
-pub exposures_agree : (list : List Observation) (one other : List ExposureData) → AreExposuresOf list one → AreExposuresOf list other → one ≡ other
-exposures_agree list one other p q =
+pub exposures_are_unique : (list : List Observation) (one other : List ExposureData) → AreExposuresOf list one → AreExposuresOf list other → one ≡ other
+exposures_are_unique list one other p q =
     sym (cut_again one p.gathered.in_order p.each) ∙ (ap cut (same_joined list one other p q) ∙ cut_again other q.gathered.in_order q.each)
 
 cut_of : (list whole : List Observation) → joined (cut whole) ≡ whole → AllPairs NotAfter whole → whole ≡ sorted canonical_cmp list → AreExposuresOf list (cut whole)
@@ -32,18 +31,7 @@ cut_of list whole is rise e = record {
   each = cut_each whole rise;
 }
 
-pub some_exposures : (list : List Observation) → (exposures : List ExposureData) × AreExposuresOf list exposures
-some_exposures list =
+pub exposures_exist : (list : List Observation) → (exposures : List ExposureData) × AreExposuresOf list exposures
+exposures_exist list =
     let whole = sorted canonical_cmp list in
     (cut whole, cut_of list whole (cut_joined whole) (sorted_rises canonical_cmp canonical_total list) refl)
-
--- ---- what gathering gives
-
-one_exposure : (x : ExposureData) → IsExposure x → IsOneExposure x
-one_exposure x is = record { some = is.some; one_epoch = is.one_epoch; one_site = is.one_site; by_id = is.by_id }
-
-pub all_exposures : (exposures : List ExposureData) → All IsExposure exposures → All IsOneExposure exposures
-all_exposures exposures all k x h = one_exposure (get_or exposures k x) (all k x h)
-
-pub exposures_from_gathered : (list : List Observation) (exposures : List ExposureData) → IsGathered list exposures → All IsExposure exposures → AreExposuresOf list exposures
-exposures_from_gathered list exposures gathered all = record { gathered = gathered; each = all_exposures exposures all }

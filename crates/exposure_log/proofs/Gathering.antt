@@ -1,6 +1,6 @@
 -- Cutting a list in canonical order into its exposures.
 use Rattle.std.proofs.Common.{◌≡◌, ℕ, ◌+◌, ◌-◌, ◌<◌, ◌==◌, ℤ, true, false, List, [], ◌∷◌, ◌++◌, length, get_or, reverse, refl, sym, ap, ◌∙◌, arith, zero, suc, inl, inr, length-append, append_assoc}
-use Rattle.std.specs.List.{AllPairs, flat_map}
+use Rattle.std.specs.List.{All, AllPairs, flat_map}
 use Rattle.std.specs.declared.cmp.Ordering.{Ordering}
 use Rattle.std.specs.declared.cmp.Ordering.TheVariants.{Less, Equal, Greater}
 use Rattle.std.specs.Ordering.{int_cmp, nat_cmp, ordering_then, is_gt}
@@ -14,6 +14,7 @@ use Rattle.std.proofs.lemmas.Grind.{flat_map-append}
 use Rattle.miti_text.specs.Observation.{Observation}
 use Rattle.exposure_log.specs.Held.{ExposureData}
 use Rattle.exposure_log.specs.Exposures.{IsExposure, IdsDontFall}
+use Rattle.exposure_log.specs.Deliveries.{IsOneExposure}
 use Rattle.exposure_log.specs.Gathered.{Precedes, NotAfter, IsOfOnePlace, AreOfOnePlace}
 use Rattle.exposure_log.proofs.Order.{Place, by_place, place_total}
 
@@ -55,11 +56,15 @@ by_id x y h one = rw (same_epoch x.epoch y.epoch one.0, same_site x.site y.site 
 moved : (x : ExposureData) (y z : Observation) → IsOfOnePlace y z → by_place (place x) (at y) ≡ Less → by_place (place x) (at z) ≡ Less
 moved x y z one h = ap (λ (e : ℤ). by_place (place x) (e, z.site)) (sym one.0) ∙ (ap (λ (s : List ℕ). by_place (place x) (y.epoch, s)) (sym one.1) ∙ h)
 
+pub one_exposure : (x : ExposureData) → IsExposure x → IsOneExposure x
+one_exposure x is = record { some = is.some; one_epoch = is.one_epoch; one_site = is.one_site; by_id = is.by_id }
+
 -- ---- what holds as the list is cut
 
 pub record Gathering (whole : Ds) (exposures : List ExposureData) (current rest : Ds) : Type 0 where
   pub flat : flat_map (λ x. x.detections) exposures ++ (current ++ rest) ≡ whole
   pub order : AllPairs Precedes exposures
+  pub each : All IsOneExposure exposures
   pub before : (j k : ℕ) (x : ExposureData) (d : Observation) → j < length exposures → k < length current → by_place (place (get_or exposures j x)) (at (get_or current k d)) ≡ Less
   pub same : AreOfOnePlace current
   pub rising : AllPairs NotAfter (current ++ rest)
@@ -69,6 +74,7 @@ pub begun : (whole : Ds) → AllPairs NotAfter whole → Gathering whole [] [] w
 begun whole rise = record {
   flat = refl;
   order = λ i j d l h. absurd (omega arith);
+  each = λ k x h. absurd (omega arith);
   before = λ j k x d h l. absurd (omega arith);
   same = λ j k d h l. absurd (omega arith);
   rising = rise;
@@ -116,6 +122,7 @@ module _ (whole : Ds) (exposures : List ExposureData) (current rest : Ds) (d : O
   joined = record {
     flat = ap (λ (xs : Ds). flat_map (λ x. x.detections) exposures ++ xs) (append_assoc current (d ∷ []) rest) ∙ g.flat;
     order = g.order;
+    each = g.each;
     before = λ j k x e h l. all_with current d (λ o. by_place (place (get_or exposures j x)) (at o) ≡ Less) (λ i f m. g.before j i x f h m) (last_before j x h) k e l;
     same = same_with;
     rising = rw (append_assoc current (d ∷ []) rest) g.rising;
@@ -152,6 +159,9 @@ module _ (whole : Ds) (exposures : List ExposureData) (current rest : Ds) (g : G
 
   pub all_in_order : 0 < length current → AllPairs Precedes (exposures ++ x ∷ [])
   all_in_order some = all_pairs_push Precedes exposures x g.order (λ k y h. placed some y k y h)
+
+  pub all_each : All IsOneExposure (exposures ++ x ∷ [])
+  all_each = all_with exposures x IsOneExposure g.each (one_exposure x is)
 
   pub all_flat : flat_map (λ y. y.detections) (exposures ++ x ∷ []) ≡ flat_map (λ y. y.detections) exposures ++ current
   all_flat = flat_map-append (λ (y : ExposureData). y.detections) exposures (x ∷ []) ∙ ap (λ (xs : Ds). flat_map (λ y. y.detections) exposures ++ xs) (append-nil x.detections ∙ same)
@@ -200,6 +210,7 @@ module _ (whole : Ds) (exposures : List ExposureData) (current rest : Ds) (d : O
   cut_off = record {
     flat = ap (λ (xs : Ds). xs ++ (d ∷ rest)) (all_flat whole exposures current (d ∷ rest) g x is same) ∙ (append_assoc (flat_map (λ y. y.detections) exposures) current (d ∷ rest) ∙ g.flat);
     order = all_in_order whole exposures current (d ∷ rest) g x is same some;
+    each = all_each whole exposures current (d ∷ rest) g x is same;
     before = λ j k y e h l. rw (single d e k l) (all_with exposures x (λ z. by_place (place z) (at d) ≡ Less) old_before new_before j y h);
     same = λ j k e h l. rw (single d e j h, single d e k l) (refl, refl);
     rising = suffix_rises current (d ∷ rest) g.rising;
@@ -208,14 +219,15 @@ module _ (whole : Ds) (exposures : List ExposureData) (current rest : Ds) (d : O
 
 -- at the end all is cut
 pub all_cut : (whole : Ds) (exposures : List ExposureData) (current : Ds) (x : ExposureData) → Gathering whole exposures current [] → IsExposure x → x.detections ≡ current → 0 < length current
-    → AllPairs Precedes (exposures ++ x ∷ []) × (flat_map (λ y. y.detections) (exposures ++ x ∷ []) ≡ whole)
+    → AllPairs Precedes (exposures ++ x ∷ []) × All IsOneExposure (exposures ++ x ∷ []) × (flat_map (λ y. y.detections) (exposures ++ x ∷ []) ≡ whole)
 all_cut whole exposures current x g is same some = (
   all_in_order whole exposures current [] g x is same some,
+  all_each whole exposures current [] g x is same,
   all_flat whole exposures current [] g x is same ∙ (ap (λ (xs : Ds). flat_map (λ y. y.detections) exposures ++ xs) (sym (append-nil current)) ∙ g.flat),
 )
 
-pub nothing_to_cut : (whole : Ds) (exposures : List ExposureData) (current : Ds) → Gathering whole exposures current [] → length current ≡ 0 → AllPairs Precedes exposures × (flat_map (λ y. y.detections) exposures ≡ whole)
-nothing_to_cut whole exposures [] g h = (g.order, sym (append-nil (flat_map (λ y. y.detections) exposures)) ∙ g.flat)
+pub nothing_to_cut : (whole : Ds) (exposures : List ExposureData) (current : Ds) → Gathering whole exposures current [] → length current ≡ 0 → AllPairs Precedes exposures × All IsOneExposure exposures × (flat_map (λ y. y.detections) exposures ≡ whole)
+nothing_to_cut whole exposures [] g h = (g.order, g.each, sym (append-nil (flat_map (λ y. y.detections) exposures)) ∙ g.flat)
 nothing_to_cut whole exposures (d ∷ ds) g h = absurd (omega arith)
 
 pub popped : (before after : Ds) (d : Observation) → before ≡ after ++ d ∷ [] → reverse before ≡ d ∷ reverse after

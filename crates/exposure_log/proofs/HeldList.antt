@@ -8,10 +8,10 @@ use Rattle.std.proofs.lemmas.List.Elements.{All-head, All-tail}
 use Rattle.std.proofs.lemmas.List.Sums.{sum_by-cons}
 use Rattle.std.proofs.lemmas.List.Folds.{list_any-append}
 use Rattle.miti_text.specs.Observation.{Observation}
-use Rattle.exposure_log.specs.declared.groups.Group.{Group}
-use Rattle.exposure_log.specs.Numbering.{slot, count_held}
+use Rattle.exposure_log.specs.declared.numbered.NumberedExposure.{NumberedExposure}
+use Rattle.number_register.specs.Numbering.{slot, count_held}
 use Rattle.exposure_log.specs.Held.{detections_of, held_at}
-use Rattle.exposure_log.specs.Groups.{entries_of, exposure_of, IsGroup, AreGroups}
+use Rattle.exposure_log.specs.Numbered.{entries_of, exposure_of, IsNumbered, AreListed}
 
 abbrev Slots : Type 0
 Slots = List (Option Observation)
@@ -23,8 +23,8 @@ Entry = ℕ × Observation
 entry_of : Slots → ℕ → Option Entry
 entry_of slots n = option_map (λ d. (n, d)) (slot slots n)
 
-abbrev pub held_list : Slots → List Group → List Entry
-held_list slots groups = detections_of (map (exposure_of slots) groups)
+abbrev pub held_list : Slots → List NumberedExposure → List Entry
+held_list slots listed = detections_of (map (exposure_of slots) listed)
 
 abbrev among : ℕ → List ℕ → Bool
 among k numbers = list_any (λ n. n == k) numbers
@@ -73,21 +73,21 @@ either_cond true true None = refl
 either_cond true false None = refl
 either_cond false b held = refl
 
-in_groups : (slots : Slots) (groups : List Group) (n : ℕ) → lookup (λ k. k == n) (held_list slots groups) ≡ cond (list_any (λ g. among n g.numbers.items) groups) (slot slots n) None
-in_groups slots [] n = refl
-in_groups slots (g ∷ gs) n =
+in_listed : (slots : Slots) (listed : List NumberedExposure) (n : ℕ) → lookup (λ k. k == n) (held_list slots listed) ≡ cond (list_any (λ g. among n g.numbers.items) listed) (slot slots n) None
+in_listed slots [] n = refl
+in_listed slots (g ∷ gs) n =
     lookup_append (λ k. k == n) (entries_of slots g.numbers.items) (held_list slots gs)
-    ∙ (rw (in_entries slots g.numbers.items n, in_groups slots gs n) (either_cond (among n g.numbers.items) (list_any (λ g. among n g.numbers.items) gs) (slot slots n)))
+    ∙ (rw (in_entries slots g.numbers.items n, in_listed slots gs n) (either_cond (among n g.numbers.items) (list_any (λ g. among n g.numbers.items) gs) (slot slots n)))
 
 pub any_at : {X : Type 0} (p : X → Bool) (xs : List X) (k : ℕ) (x : X) → k < length xs → get_or xs k x ≡ x → p x ≡ true → list_any p xs ≡ true
 any_at p [] k x h e t = absurd (omega arith)
 any_at p (y ∷ ys) zero x h e t = or_left (p y) (list_any p ys) (rw e t)
 any_at p (y ∷ ys) (suc k) x h e t = or_right (p y) (list_any p ys) (any_at p ys k x (omega arith) e t)
 
-pub in_a_group : (slots : Slots) (groups : List Group) → AreGroups slots groups → (n : ℕ) (d : Observation) → slot slots n ≡ Some d → list_any (λ g. among n g.numbers.items) groups ≡ true
-in_a_group slots groups a n d held =
+pub in_a_numbered : (slots : Slots) (listed : List NumberedExposure) → AreListed slots listed → (n : ℕ) (d : Observation) → slot slots n ≡ Some d → list_any (λ g. among n g.numbers.items) listed ≡ true
+in_a_numbered slots listed a n d held =
     let there = a.none_else n d held in
-    any_at (λ (g : Group). among n g.numbers.items) groups there.1.0 there.0 there.1.1 there.1.2
+    any_at (λ (g : NumberedExposure). among n g.numbers.items) listed there.1.0 there.0 there.1.1 there.1.2
     (any_at (λ k. k == n) there.0.numbers.items there.2.0 n there.2.1 there.2.2 (eq-eqb n n refl))
 
 by_slot : (b : Bool) (held : Option Observation) → ((d : Observation) → held ≡ Some d → b ≡ true) → cond b held None ≡ held
@@ -95,8 +95,8 @@ by_slot b None h = none_either b None refl
 by_slot b (Some d) h = rw (h d refl) refl
 
 -- the held detection of a number is what stands in its slot
-pub held_is : (slots : Slots) (groups : List Group) → AreGroups slots groups → (n : ℕ) → held_at (map (exposure_of slots) groups) n ≡ slot slots n
-held_is slots groups a n = in_groups slots groups n ∙ by_slot (list_any (λ g. among n g.numbers.items) groups) (slot slots n) (λ d held. in_a_group slots groups a n d held)
+pub held_is : (slots : Slots) (listed : List NumberedExposure) → AreListed slots listed → (n : ℕ) → held_at (map (exposure_of slots) listed) n ≡ slot slots n
+held_is slots listed a n = in_listed slots listed n ∙ by_slot (list_any (λ g. among n g.numbers.items) listed) (slot slots n) (λ d held. in_a_numbered slots listed a n d held)
 
 -- ---- how many are held
 
@@ -113,25 +113,25 @@ length_entries slots (m ∷ ms) h =
 some_from : (held : Option Observation) (d : Observation) → held ≡ Some d → IsSome held
 some_from held d e = rw e refl
 
-pub each_is_held : (slots : Slots) (g : Group) → IsGroup slots g → (k : ℕ) → k < length g.numbers.items → IsSome (slot slots (slice_index g.numbers.items k))
+pub each_is_held : (slots : Slots) (g : NumberedExposure) → IsNumbered slots g → (k : ℕ) → k < length g.numbers.items → IsSome (slot slots (slice_index g.numbers.items k))
 each_is_held slots g is k h = let d = is.held k h in some_from (slot slots (slice_index g.numbers.items k)) d.0 d.1
 
-pub length_held : (slots : Slots) (groups : List Group) → All (IsGroup slots) groups → length (held_list slots groups) ≡ sum_by (λ g. length g.numbers.items) groups
+pub length_held : (slots : Slots) (listed : List NumberedExposure) → All (IsNumbered slots) listed → length (held_list slots listed) ≡ sum_by (λ g. length g.numbers.items) listed
 length_held slots [] all = refl
 length_held slots (g ∷ gs) all =
-    let first = length_entries slots g.numbers.items (each_is_held slots g (All-head (IsGroup slots) g gs all)) in
-    let rest = length_held slots gs (All-tail (IsGroup slots) g gs all) in
-    omega (arith, length-append (entries_of slots g.numbers.items) (held_list slots gs), first, rest, sum_by-cons (λ (x : Group). length x.numbers.items) g gs)
+    let first = length_entries slots g.numbers.items (each_is_held slots g (All-head (IsNumbered slots) g gs all)) in
+    let rest = length_held slots gs (All-tail (IsNumbered slots) g gs all) in
+    omega (arith, length-append (entries_of slots g.numbers.items) (held_list slots gs), first, rest, sum_by-cons (λ (x : NumberedExposure). length x.numbers.items) g gs)
 
-pub count_is : (slots : Slots) (groups : List Group) → AreGroups slots groups → length (held_list slots groups) ≡ count_held slots
-count_is slots groups a = length_held slots groups a.each ∙ sym a.count
+pub count_is : (slots : Slots) (listed : List NumberedExposure) → AreListed slots listed → length (held_list slots listed) ≡ count_held slots
+count_is slots listed a = length_held slots listed a.each ∙ sym a.count
 
--- no more groups than held detections
-pub few_groups : (slots : Slots) (groups : List Group) → All (IsGroup slots) groups → length groups ≤ sum_by (λ g. length g.numbers.items) groups
-few_groups slots [] all = omega arith
-few_groups slots (g ∷ gs) all =
-    let some = (All-head (IsGroup slots) g gs all).some in
-    omega (arith, some, few_groups slots gs (All-tail (IsGroup slots) g gs all), sum_by-cons (λ (x : Group). length x.numbers.items) g gs)
+-- no more exposures than held detections
+pub few_listed : (slots : Slots) (listed : List NumberedExposure) → All (IsNumbered slots) listed → length listed ≤ sum_by (λ g. length g.numbers.items) listed
+few_listed slots [] all = omega arith
+few_listed slots (g ∷ gs) all =
+    let some = (All-head (IsNumbered slots) g gs all).some in
+    omega (arith, some, few_listed slots gs (All-tail (IsNumbered slots) g gs all), sum_by-cons (λ (x : NumberedExposure). length x.numbers.items) g gs)
 
 -- ---- a test on each
 
@@ -144,7 +144,7 @@ no_entry : (p : Entry → Bool) (slots : Slots) (numbers : List ℕ) → ((n : �
 no_entry p slots [] h = refl
 no_entry p slots (m ∷ ms) h = any_one p slots m ms (slot slots m) refl (λ d e. h m d e) (no_entry p slots ms h)
 
-pub none_held : (p : Entry → Bool) (slots : Slots) (groups : List Group) → ((n : ℕ) (d : Observation) → slot slots n ≡ Some d → p (n, d) ≡ false) → list_any p (held_list slots groups) ≡ false
+pub none_held : (p : Entry → Bool) (slots : Slots) (listed : List NumberedExposure) → ((n : ℕ) (d : Observation) → slot slots n ≡ Some d → p (n, d) ≡ false) → list_any p (held_list slots listed) ≡ false
 none_held p slots [] h = refl
 none_held p slots (g ∷ gs) h = list_any-append p (entries_of slots g.numbers.items) (held_list slots gs) ∙ or_from (list_any p (entries_of slots g.numbers.items)) (list_any p (held_list slots gs)) (no_entry p slots g.numbers.items h) (none_held p slots gs h)
 
@@ -166,12 +166,12 @@ in_numbers : (p : Entry → Bool) (slots : Slots) (numbers : List ℕ) (n : ℕ)
 in_numbers p slots [] n d s t h = cc
 in_numbers p slots (m ∷ ms) n d s t h = found_one p slots m ms n d (slot slots m) refl s t h (in_numbers p slots ms n d s t)
 
-among_groups : (p : Entry → Bool) (slots : Slots) (groups : List Group) (n : ℕ) (d : Observation) → slot slots n ≡ Some d → p (n, d) ≡ true → list_any (λ g. among n g.numbers.items) groups ≡ true → list_any p (held_list slots groups) ≡ true
-among_groups p slots [] n d s t h = cc
-among_groups p slots (g ∷ gs) n d s t h = list_any-append p (entries_of slots g.numbers.items) (held_list slots gs) ∙ (elim (or_cases (among n g.numbers.items) (list_any (λ g. among n g.numbers.items) gs) h) [
+among_listed : (p : Entry → Bool) (slots : Slots) (listed : List NumberedExposure) (n : ℕ) (d : Observation) → slot slots n ≡ Some d → p (n, d) ≡ true → list_any (λ g. among n g.numbers.items) listed ≡ true → list_any p (held_list slots listed) ≡ true
+among_listed p slots [] n d s t h = cc
+among_listed p slots (g ∷ gs) n d s t h = list_any-append p (entries_of slots g.numbers.items) (held_list slots gs) ∙ (elim (or_cases (among n g.numbers.items) (list_any (λ g. among n g.numbers.items) gs) h) [
   | inl y ↦ or_left (list_any p (entries_of slots g.numbers.items)) (list_any p (held_list slots gs)) (in_numbers p slots g.numbers.items n d s t y)
-  | inr y ↦ or_right (list_any p (entries_of slots g.numbers.items)) (list_any p (held_list slots gs)) (among_groups p slots gs n d s t y)
+  | inr y ↦ or_right (list_any p (entries_of slots g.numbers.items)) (list_any p (held_list slots gs)) (among_listed p slots gs n d s t y)
 ])
 
-pub some_held : (p : Entry → Bool) (slots : Slots) (groups : List Group) → AreGroups slots groups → (n : ℕ) (d : Observation) → slot slots n ≡ Some d → p (n, d) ≡ true → list_any p (held_list slots groups) ≡ true
-some_held p slots groups a n d held t = among_groups p slots groups n d held t (in_a_group slots groups a n d held)
+pub some_held : (p : Entry → Bool) (slots : Slots) (listed : List NumberedExposure) → AreListed slots listed → (n : ℕ) (d : Observation) → slot slots n ≡ Some d → p (n, d) ≡ true → list_any p (held_list slots listed) ≡ true
+some_held p slots listed a n d held t = among_listed p slots listed n d held t (in_a_numbered slots listed a n d held)

@@ -1,4 +1,4 @@
--- A group more, at its place.
+-- An exposure more, at its place.
 use Rattle.std.proofs.Common.{◌≡◌, ℕ, ◌+◌, ◌<◌, ◌≤◌, ◌==◌, Bool, true, false, Option, Some, None, List, [], ◌∷◌, ◌++◌, length, get_or, take, drop, map, refl, sym, ap, ◌∙◌, arith, zero, suc, inl, inr}
 use Rattle.std.specs.List.{list_any, slice_index, insert, All, Contains, AllPairs}
 use Rattle.std.specs.List.Sorted.{IsPartitionPoint}
@@ -12,12 +12,12 @@ use Rattle.std.proofs.lemmas.List.Kept.{AllPairs-cons}
 use Rattle.std.proofs.lemmas.List.Sorted.{IsPermutation-insert, sum_by-IsPermutation}
 use Rattle.std.proofs.lemmas.List.Sums.{sum_by-cons}
 use Rattle.miti_text.specs.Observation.{Observation}
-use Rattle.exposure_log.specs.declared.groups.Group.{Group}
-use Rattle.exposure_log.specs.Numbering.{slot, count_held}
+use Rattle.exposure_log.specs.declared.numbered.NumberedExposure.{NumberedExposure}
+use Rattle.number_register.specs.Numbering.{slot, count_held}
 use Rattle.exposure_log.specs.Held.{HeldExposure, stands_before, stands_after, with_exposure, most_detections}
-use Rattle.exposure_log.specs.Groups.{group_cmp, IsGroup, AreGroups, RiseStrictly, exposure_of}
+use Rattle.exposure_log.specs.Numbered.{numbered_cmp, IsNumbered, AreListed, RiseStrictly, exposure_of}
 use Rattle.exposure_log.proofs.Order.{place_total, place_of, by_place}
-use Rattle.exposure_log.proofs.Leaving.{kept_group, same_entries, among_index, clash}
+use Rattle.exposure_log.proofs.Leaving.{kept_numbered, same_entries, among_index, clash}
 use Rattle.exposure_log.proofs.Searching.{filter_map_is, filter_take, filter_drop}
 
 abbrev Slots : Type 0
@@ -29,10 +29,10 @@ among k numbers = list_any (λ n. n == k) numbers
 flipped : (a b : Ordering) → a ≡ ordering_reverse b → b ≡ Greater → a ≡ Less
 flipped a b e h = e ∙ ap ordering_reverse h
 
-abbrev goes_before : Group → Group → Type 0
-goes_before g h = group_cmp h.epoch h.site g ≡ Less
+abbrev goes_before : NumberedExposure → NumberedExposure → Type 0
+goes_before g h = numbered_cmp h.epoch h.site g ≡ Less
 
-rises : (xs : List Group) (i : ℕ) (g : Group) → i ≤ length xs → AllPairs goes_before xs → ((k : ℕ) (d : Group) → k < i → k < length xs → goes_before (get_or xs k d) g) → ((k : ℕ) (d : Group) → i ≤ k → k < length xs → goes_before g (get_or xs k d)) → AllPairs goes_before (insert xs i g)
+rises : (xs : List NumberedExposure) (i : ℕ) (g : NumberedExposure) → i ≤ length xs → AllPairs goes_before xs → ((k : ℕ) (d : NumberedExposure) → k < i → k < length xs → goes_before (get_or xs k d) g) → ((k : ℕ) (d : NumberedExposure) → i ≤ k → k < length xs → goes_before g (get_or xs k d)) → AllPairs goes_before (insert xs i g)
 rises xs zero g h p before after = AllPairs-cons goes_before g xs (λ k d l. after k d (omega arith) l) p
 rises [] (suc i) g h p before after = absurd (omega arith)
 rises (x ∷ xs) (suc i) g h p before after =
@@ -41,17 +41,17 @@ rises (x ∷ xs) (suc i) g h p before after =
     (All-append (goes_before x) (take i xs) (g ∷ drop i xs) (All-take (goes_before x) i xs first) (All-cons (goes_before x) g (drop i xs) (before 0 x (omega arith) (omega arith)) (All-drop (goes_before x) i xs first)))
     (rises xs i g (omega arith) (λ j k d lt l. p (suc j) (suc k) d (omega arith) (omega arith)) (λ k d low high. before (suc k) d (omega arith) (omega arith)) (λ k d low high. after (suc k) d (omega arith) (omega arith)))
 
-map_same : (slots slots' : Slots) (xs : List Group) → ((k : ℕ) (d : Group) → k < length xs → exposure_of slots' (get_or xs k d) ≡ exposure_of slots (get_or xs k d)) → map (exposure_of slots') xs ≡ map (exposure_of slots) xs
+map_same : (slots slots' : Slots) (xs : List NumberedExposure) → ((k : ℕ) (d : NumberedExposure) → k < length xs → exposure_of slots' (get_or xs k d) ≡ exposure_of slots (get_or xs k d)) → map (exposure_of slots') xs ≡ map (exposure_of slots) xs
 map_same slots slots' [] h = refl
 map_same slots slots' (x ∷ xs) h = rw (h 0 x (omega arith), map_same slots slots' xs (λ k d l. h (suc k) d (omega arith))) refl
 
-map_insert : (slots slots' : Slots) (xs : List Group) (i : ℕ) (g : Group) → ((k : ℕ) (d : Group) → k < length xs → exposure_of slots' (get_or xs k d) ≡ exposure_of slots (get_or xs k d))
+map_insert : (slots slots' : Slots) (xs : List NumberedExposure) (i : ℕ) (g : NumberedExposure) → ((k : ℕ) (d : NumberedExposure) → k < length xs → exposure_of slots' (get_or xs k d) ≡ exposure_of slots (get_or xs k d))
     → map (exposure_of slots') (insert xs i g) ≡ map (exposure_of slots) (take i xs) ++ exposure_of slots' g ∷ map (exposure_of slots) (drop i xs)
 map_insert slots slots' xs zero g h = rw (map_same slots slots' xs h) refl
 map_insert slots slots' [] (suc i) g h = refl
 map_insert slots slots' (x ∷ xs) (suc i) g h = rw (h 0 x (omega arith), map_insert slots slots' xs i g (λ k d l. h (suc k) d (omega arith))) refl
 
-abbrev with_detections : Group → List (ℕ × Observation) → HeldExposure
+abbrev with_detections : NumberedExposure → List (ℕ × Observation) → HeldExposure
 with_detections g ds = record { epoch = g.epoch; site = g.site; detections = ds }
 
 at_index : (ns : List ℕ) (k n : ℕ) → k < length ns → slice_index ns k ≡ n → get_or ns k n ≡ n
@@ -59,25 +59,25 @@ at_index [] k n h e = absurd (omega arith)
 at_index (m ∷ ms) zero n h e = e
 at_index (m ∷ ms) (suc k) n h e = at_index ms k n (omega arith) e
 
--- ---- the order of the groups
+-- ---- the order of the exposures
 
-module _ (groups : List Group) (g : Group) (i : ℕ) (h : i ≤ length groups) (rise : RiseStrictly groups)
-    (parts : IsPartitionPoint (λ x. group_cmp g.epoch g.site x ≡ Less) (λ x. group_cmp g.epoch g.site x ≡ Greater) groups i) where
-  at_end : (k : ℕ) (d : Group) → i ≤ k → k < length groups → goes_before g (get_or groups k d)
-  at_end k d low high = flipped (by_place (place_of g) (place_of (get_or groups k d))) (by_place (place_of (get_or groups k d)) (place_of g)) (place_total.antisymm (place_of g) (place_of (get_or groups k d))) (parts.1 k d low high)
+module _ (listed : List NumberedExposure) (g : NumberedExposure) (i : ℕ) (h : i ≤ length listed) (rise : RiseStrictly listed)
+    (parts : IsPartitionPoint (λ x. numbered_cmp g.epoch g.site x ≡ Less) (λ x. numbered_cmp g.epoch g.site x ≡ Greater) listed i) where
+  at_end : (k : ℕ) (d : NumberedExposure) → i ≤ k → k < length listed → goes_before g (get_or listed k d)
+  at_end k d low high = flipped (by_place (place_of g) (place_of (get_or listed k d))) (by_place (place_of (get_or listed k d)) (place_of g)) (place_total.antisymm (place_of g) (place_of (get_or listed k d))) (parts.1 k d low high)
 
-  pub still_rises : RiseStrictly (insert groups i g)
-  still_rises = rises groups i g h rise (λ k d low high. parts.0 k d (omega arith) low) at_end
+  pub still_rises : RiseStrictly (insert listed i g)
+  still_rises = rises listed i g h rise (λ k d low high. parts.0 k d (omega arith) low) at_end
 
-  pub exposures_with : (slots slots' : Slots) → ((k : ℕ) (d : Group) → k < length groups → exposure_of slots' (get_or groups k d) ≡ exposure_of slots (get_or groups k d))
-      → map (exposure_of slots') (insert groups i g) ≡ with_exposure (exposure_of slots' g) (map (exposure_of slots) groups)
+  pub exposures_with : (slots slots' : Slots) → ((k : ℕ) (d : NumberedExposure) → k < length listed → exposure_of slots' (get_or listed k d) ≡ exposure_of slots (get_or listed k d))
+      → map (exposure_of slots') (insert listed i g) ≡ with_exposure (exposure_of slots' g) (map (exposure_of slots) listed)
   exposures_with slots slots' same =
-      let before = filter_map_is (stands_before g.epoch g.site) (exposure_of slots) groups ∙ ap (map (exposure_of slots)) (filter_take (λ (x : Group). is_lt (group_cmp g.epoch g.site x)) groups i (λ k d low high. ap is_lt (parts.0 k d (omega arith) low)) (λ k d low high. ap is_lt (parts.1 k d low high))) in
-      let after = filter_map_is (stands_after g.epoch g.site) (exposure_of slots) groups ∙ ap (map (exposure_of slots)) (filter_drop (λ (x : Group). is_gt (group_cmp g.epoch g.site x)) groups i (λ k d low high. ap is_gt (parts.0 k d (omega arith) low)) (λ k d low high. ap is_gt (parts.1 k d low high))) in
-      rw (before, after) (map_insert slots slots' groups i g same)
+      let before = filter_map_is (stands_before g.epoch g.site) (exposure_of slots) listed ∙ ap (map (exposure_of slots)) (filter_take (λ (x : NumberedExposure). is_lt (numbered_cmp g.epoch g.site x)) listed i (λ k d low high. ap is_lt (parts.0 k d (omega arith) low)) (λ k d low high. ap is_lt (parts.1 k d low high))) in
+      let after = filter_map_is (stands_after g.epoch g.site) (exposure_of slots) listed ∙ ap (map (exposure_of slots)) (filter_drop (λ (x : NumberedExposure). is_gt (numbered_cmp g.epoch g.site x)) listed i (λ k d low high. ap is_gt (parts.0 k d (omega arith) low)) (λ k d low high. ap is_gt (parts.1 k d low high))) in
+      rw (before, after) (map_insert slots slots' listed i g same)
 
-module _ (slots slots' : Slots) (groups : List Group) (g : Group) (i : ℕ) (h : i ≤ length groups) (a : AreGroups slots groups) (is : IsGroup slots' g)
-    (parts : IsPartitionPoint (λ x. group_cmp g.epoch g.site x ≡ Less) (λ x. group_cmp g.epoch g.site x ≡ Greater) groups i)
+module _ (slots slots' : Slots) (listed : List NumberedExposure) (g : NumberedExposure) (i : ℕ) (h : i ≤ length listed) (a : AreListed slots listed) (is : IsNumbered slots' g)
+    (parts : IsPartitionPoint (λ x. numbered_cmp g.epoch g.site x ≡ Less) (λ x. numbered_cmp g.epoch g.site x ≡ Greater) listed i)
     (fresh : (n : ℕ) → among n g.numbers.items ≡ true → slot slots n ≡ None)
     (same : (n : ℕ) → among n g.numbers.items ≡ false → slot slots' n ≡ slot slots n) where
   not_new : (n : ℕ) (d : Observation) → slot slots n ≡ Some d → among n g.numbers.items ≡ false
@@ -86,27 +86,27 @@ module _ (slots slots' : Slots) (groups : List Group) (g : Group) (i : ℕ) (h :
     | inr f ↦ f
   ]
 
-  keeps : (k : ℕ) (d : Group) → k < length groups → (j : ℕ) → j < length (get_or groups k d).numbers.items → slot slots' (slice_index (get_or groups k d).numbers.items j) ≡ slot slots (slice_index (get_or groups k d).numbers.items j)
+  keeps : (k : ℕ) (d : NumberedExposure) → k < length listed → (j : ℕ) → j < length (get_or listed k d).numbers.items → slot slots' (slice_index (get_or listed k d).numbers.items j) ≡ slot slots (slice_index (get_or listed k d).numbers.items j)
   keeps k d l j m =
       let held = (a.each k d l).held j m in
-      same (slice_index (get_or groups k d).numbers.items j) (not_new (slice_index (get_or groups k d).numbers.items j) held.0 held.1)
+      same (slice_index (get_or listed k d).numbers.items j) (not_new (slice_index (get_or listed k d).numbers.items j) held.0 held.1)
 
-  pub same_exposures : (k : ℕ) (d : Group) → k < length groups → exposure_of slots' (get_or groups k d) ≡ exposure_of slots (get_or groups k d)
-  same_exposures k d l = ap (with_detections (get_or groups k d)) (same_entries slots slots' (get_or groups k d).numbers.items (keeps k d l))
+  pub same_exposures : (k : ℕ) (d : NumberedExposure) → k < length listed → exposure_of slots' (get_or listed k d) ≡ exposure_of slots (get_or listed k d)
+  same_exposures k d l = ap (with_detections (get_or listed k d)) (same_entries slots slots' (get_or listed k d).numbers.items (keeps k d l))
 
-  old_groups : All (IsGroup slots') groups
-  old_groups k d l = kept_group slots slots' (get_or groups k d) (a.each k d l) (keeps k d l)
+  old_listed : All (IsNumbered slots') listed
+  old_listed k d l = kept_numbered slots slots' (get_or listed k d) (a.each k d l) (keeps k d l)
 
-  new_there : Contains (insert groups i g) g
-  new_there = (i, omega (arith, length-insert groups i g h), get_or-insert_at groups i g g h)
+  new_there : Contains (insert listed i g) g
+  new_there = (i, omega (arith, length-insert listed i g h), get_or-insert_at listed i g g h)
 
-  old_there : (x : Group) → Contains groups x → Contains (insert groups i g) x
+  old_there : (x : NumberedExposure) → Contains listed x → Contains (insert listed i g) x
   old_there x there = elim (cases_lt there.0 i) [
-    | inl lt ↦ (there.0, omega (arith, length-insert groups i g h, there.1), get_or-insert_below groups i g x there.0 lt h ∙ there.2)
-    | inr ge ↦ (there.0 + 1, omega (arith, length-insert groups i g h, there.1), get_or-insert_above groups i g x there.0 ge h ∙ there.2)
+    | inl lt ↦ (there.0, omega (arith, length-insert listed i g h, there.1), get_or-insert_below listed i g x there.0 lt h ∙ there.2)
+    | inr ge ↦ (there.0 + 1, omega (arith, length-insert listed i g h, there.1), get_or-insert_above listed i g x there.0 ge h ∙ there.2)
   ]
 
-  old_or_new : (n : ℕ) (d : Observation) → slot slots' n ≡ Some d → (x : Group) × Contains (insert groups i g) x × Contains x.numbers.items n
+  old_or_new : (n : ℕ) (d : Observation) → slot slots' n ≡ Some d → (x : NumberedExposure) × Contains (insert listed i g) x × Contains x.numbers.items n
   old_or_new n d held = elim (cases_Bool (among n g.numbers.items)) [
     | inl y ↦
         let there = among_index g.numbers.items n y in
@@ -116,13 +116,13 @@ module _ (slots slots' : Slots) (groups : List Group) (g : Group) (i : ℕ) (h :
         (there.0, old_there there.0 there.1, there.2)
   ]
 
-  pub groups_with : count_held slots' ≡ count_held slots + length g.numbers.items → count_held slots' ≤ most_detections → AreGroups slots' (insert groups i g)
-  groups_with count few =
-      let sum = sum_by-IsPermutation (λ (x : Group). length x.numbers.items) (g ∷ groups) (insert groups i g) (IsPermutation-insert groups i g) in
+  pub listed_with : count_held slots' ≡ count_held slots + length g.numbers.items → count_held slots' ≤ most_detections → AreListed slots' (insert listed i g)
+  listed_with count few =
+      let sum = sum_by-IsPermutation (λ (x : NumberedExposure). length x.numbers.items) (g ∷ listed) (insert listed i g) (IsPermutation-insert listed i g) in
       record {
-        in_order = still_rises groups g i h a.in_order parts;
-        each = All-append (IsGroup slots') (take i groups) (g ∷ drop i groups) (All-take (IsGroup slots') i groups old_groups) (All-cons (IsGroup slots') g (drop i groups) is (All-drop (IsGroup slots') i groups old_groups));
+        in_order = still_rises listed g i h a.in_order parts;
+        each = All-append (IsNumbered slots') (take i listed) (g ∷ drop i listed) (All-take (IsNumbered slots') i listed old_listed) (All-cons (IsNumbered slots') g (drop i listed) is (All-drop (IsNumbered slots') i listed old_listed));
         none_else = old_or_new;
-        count = omega (arith, sum, count, a.count, sum_by-cons (λ (x : Group). length x.numbers.items) g groups);
+        count = omega (arith, sum, count, a.count, sum_by-cons (λ (x : NumberedExposure). length x.numbers.items) g listed);
         few = few;
       }

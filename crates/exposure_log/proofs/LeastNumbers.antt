@@ -2,7 +2,7 @@
 use Rattle.std.proofs.Common.{◌≡◌, ℕ, ◌+◌, ◌<◌, ◌≤◌, ◌==◌, ℤ, Bool, true, false, List, [], ◌∷◌, length, map, refl, sym, ap, ◌∙◌, arith, zero, suc, inl, inr}
 use Rattle.std.proofs.lemmas.Bool.{cases_lt, cases_Bool, ne_eqb, or_from}
 use Rattle.miti_text.specs.Observation.{Observation}
-use Rattle.exposure_log.specs.Held.{HeldExposure, LogData, ExposureData, Adds, IsLeastNumber, AreLeastNumbers, is_among, detections_of, with_exposure}
+use Rattle.exposure_log.specs.Held.{HeldExposure, LogData, ExposureData, TakesIn, IsLeastNumber, AreLeastNumbers, is_among, detections_of, with_exposure}
 use Rattle.exposure_log.proofs.Fronts.{first_same, rest_same}
 
 -- ---- the numbers are determined
@@ -57,8 +57,8 @@ held_agree : (one other : HeldExposure) → one.epoch ≡ other.epoch → one.si
 held_agree one other e s d =
     ap (λ (z : ℤ). held_as z one.site one.detections) e ∙ (ap (λ (z : List ℕ). held_as other.epoch z one.detections) s ∙ ap (held_as other.epoch other.site) d)
 
-pub adds_agree : (old one other : LogData) (x : ExposureData) → Adds old one x → Adds old other x → one ≡ other
-adds_agree old one other x p q =
+pub add_is_unique : (old one other : LogData) (x : ExposureData) → TakesIn old one x → TakesIn old other x → one ≡ other
+add_is_unique old one other x p q =
     let seconds = p.detections ∙ sym q.detections in
     let firsts = numbers_agree (map (λ d. d.0) (detections_of old.exposures)) (map (λ d. d.0) p.held.detections) (map (λ d. d.0) q.held.detections) p.numbers q.numbers (as_many (λ d. d.0) (λ d. d.1) p.held.detections q.held.detections seconds) in
     let held = held_agree p.held q.held (p.epoch ∙ sym q.epoch) (p.site ∙ sym q.site) (columns_agree p.held.detections q.held.detections firsts seconds) in
@@ -104,8 +104,8 @@ some_numbers taken (d ∷ ds) =
     let rest = some_numbers (first.0 ∷ taken) ds in
     ((first.0, d) ∷ rest.0, (ap (λ (xs : List Observation). d ∷ xs) rest.1.0, (first.1, rest.1.1)))
 
-pub some_add : (old : LogData) (x : ExposureData) → (new : LogData) × Adds old new x
-some_add old x =
+pub add_exists : (old : LogData) (x : ExposureData) → (new : LogData) × TakesIn old new x
+add_exists old x =
     let numbered = some_numbers (map (λ d. d.0) (detections_of old.exposures)) x.detections in (
       record old { exposures = with_exposure (held_as x.epoch x.site numbered.0) old.exposures },
       record {

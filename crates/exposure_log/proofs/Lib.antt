@@ -1,16 +1,11 @@
-pub mod Slots
-pub mod FreeNumbers
-pub mod Ids
-pub mod Answered
 pub mod Order
-pub mod Takings
 pub mod HeldList
 pub mod Leaving
 pub mod Searching
 pub mod Removing
 pub mod Logs
 pub mod Inserting
-pub mod NewGroup
+pub mod NewlyNumbered
 pub mod Refusing
 pub mod Forgetting
 pub mod Gathering
@@ -26,3 +21,7 @@ pub mod ByNight
 pub mod AtPlace
 pub mod NightEdits
 pub mod FreePlace
+pub mod Joined
+pub mod Unrefused
+pub mod Keeping
+pub mod Holding

@@ -1,4 +1,4 @@
--- Why an exposure isn't taken, by what the groups and the slots say.
+-- Why an exposure isn't taken, by what the exposures and the slots say.
 use Rattle.std.proofs.Common.{◌≡◌, ◌≢◌, ℕ, ◌+◌, ◌<◌, ℤ, Bool, true, false, ◌||◌, Option, Some, None, List, [], ◌∷◌, length, get_or, take, map, refl, sym, ap, ◌∙◌, arith, zero, suc, inl, inr, nat_eq, length-take}
 use Rattle.std.specs.List.{list_any, slice_get, range_with_len, filter, find}
 use Rattle.std.specs.Option.{option_map_or}
@@ -10,11 +10,11 @@ use Rattle.std.proofs.lemmas.Option.{get_or_from_slice_get}
 use Rattle.std.proofs.lemmas.List.{get_or-take}
 use Rattle.sky_math.specs.Night.{night_at}
 use Rattle.miti_text.specs.Observation.{Observation}
-use Rattle.exposure_log.specs.declared.groups.Group.{Group}
-use Rattle.exposure_log.specs.Numbering.{slot}
+use Rattle.exposure_log.specs.declared.numbered.NumberedExposure.{NumberedExposure}
+use Rattle.number_register.specs.Numbering.{slot}
 use Rattle.exposure_log.specs.Held.{HeldExposure, stands_at, is_held_id, is_taken, first_taken, of_night}
-use Rattle.exposure_log.specs.Groups.{group_cmp, exposure_of, AreGroups, NoneTaken, IsFirstTaken, IsFresh, IsApart, IsTaken}
-use Rattle.exposure_log.specs.NightGroups.{is_of_night}
+use Rattle.exposure_log.specs.Numbered.{numbered_cmp, exposure_of, AreListed, NoneTaken, IsFirstTaken, IsFresh, IsApart, IsTaken}
+use Rattle.exposure_log.specs.Nights.{is_of_night}
 use Rattle.exposure_log.proofs.HeldList.{none_held, some_held, any_at}
 use Rattle.exposure_log.proofs.Removing.{still_there}
 use Rattle.exposure_log.proofs.Searching.{any_map, any_none, filter_map_is}
@@ -25,18 +25,18 @@ Slots = List (Option Observation)
 abbrev Ds : Type 0
 Ds = List Observation
 
-any_default : (xs : List Group) (i : ℕ) (d e : Group) → i < length xs → get_or xs i e ≡ get_or xs i d
+any_default : (xs : List NumberedExposure) (i : ℕ) (d e : NumberedExposure) → i < length xs → get_or xs i e ≡ get_or xs i d
 any_default [] i d e h = absurd (omega arith)
 any_default (x ∷ xs) zero d e h = refl
 any_default (x ∷ xs) (suc i) d e h = any_default xs i d e (omega arith)
 
-at_place : (groups : List Group) (epoch : ℤ) (site : List ℕ) (i : ℕ) → i < length groups → ((g : Group) → group_cmp epoch site (get_or groups i g) ≡ Equal) → list_any (λ g. is_eq (group_cmp epoch site g)) groups ≡ true
+at_place : (listed : List NumberedExposure) (epoch : ℤ) (site : List ℕ) (i : ℕ) → i < length listed → ((g : NumberedExposure) → numbered_cmp epoch site (get_or listed i g) ≡ Equal) → list_any (λ g. is_eq (numbered_cmp epoch site g)) listed ≡ true
 at_place [] epoch site i h found = absurd (omega arith)
-at_place (x ∷ xs) epoch site i h found = any_at (λ (g : Group). is_eq (group_cmp epoch site g)) (x ∷ xs) i (get_or (x ∷ xs) i x) h (any_default (x ∷ xs) i x (get_or (x ∷ xs) i x) h) (ap is_eq (found x))
+at_place (x ∷ xs) epoch site i h found = any_at (λ (g : NumberedExposure). is_eq (numbered_cmp epoch site g)) (x ∷ xs) i (get_or (x ∷ xs) i x) h (any_default (x ∷ xs) i x (get_or (x ∷ xs) i x) h) (ap is_eq (found x))
 
--- what stands among the groups of a night is held
-pub place_is_held_in_night : (slots : Slots) (groups : List Group) (q : Group → Bool) (epoch : ℤ) (site : List ℕ) (i : ℕ) → (i < length (filter q groups)) × ((g : Group) → group_cmp epoch site (get_or (filter q groups) i g) ≡ Equal) → list_any (stands_at epoch site) (map (exposure_of slots) groups) ≡ true
-place_is_held_in_night slots groups q epoch site i found = any_map (stands_at epoch site) (exposure_of slots) groups ∙ still_there (λ (g : Group). is_eq (group_cmp epoch site g)) q groups (at_place (filter q groups) epoch site i found.0 found.1)
+-- what stands among the exposures of a night is held
+pub place_is_held_in_night : (slots : Slots) (listed : List NumberedExposure) (q : NumberedExposure → Bool) (epoch : ℤ) (site : List ℕ) (i : ℕ) → (i < length (filter q listed)) × ((g : NumberedExposure) → numbered_cmp epoch site (get_or (filter q listed) i g) ≡ Equal) → list_any (stands_at epoch site) (map (exposure_of slots) listed) ≡ true
+place_is_held_in_night slots listed q epoch site i found = any_map (stands_at epoch site) (exposure_of slots) listed ∙ still_there (λ (g : NumberedExposure). is_eq (numbered_cmp epoch site g)) q listed (at_place (filter q listed) epoch site i found.0 found.1)
 
 -- ---- the first taken id
 
@@ -56,13 +56,13 @@ defaults ds k j d x l m =
     let within : j < length ds = omega (arith, l, length-take k ds) in
     read_default ds j x d within ∙ sym (get_or-take k ds j x m)
 
-not_taken : (slots : Slots) (groups : List Group) (ds : Ds) (k : ℕ) (o : Option Observation) → slice_get ds k ≡ o → IsFresh (slot slots) ds k → IsApart ds k
-    → option_map_or (λ d. is_held_id (map (exposure_of slots) groups) d.id || list_any (λ e. pointwise nat_eq e.id d.id) (take k ds)) o false ≡ false
-not_taken slots groups ds k None e fresh apart = refl
-not_taken slots groups ds k (Some d) e fresh apart =
+not_taken : (slots : Slots) (listed : List NumberedExposure) (ds : Ds) (k : ℕ) (o : Option Observation) → slice_get ds k ≡ o → IsFresh (slot slots) ds k → IsApart ds k
+    → option_map_or (λ d. is_held_id (map (exposure_of slots) listed) d.id || list_any (λ e. pointwise nat_eq e.id d.id) (take k ds)) o false ≡ false
+not_taken slots listed ds k None e fresh apart = refl
+not_taken slots listed ds k (Some d) e fresh apart =
     let here : get_or ds k d ≡ d = get_or_from_slice_get ds k d d e in
-    or_from (is_held_id (map (exposure_of slots) groups) d.id) (list_any (λ e. pointwise nat_eq e.id d.id) (take k ds))
-    (none_held (λ p. pointwise nat_eq p.1.id d.id) slots groups (λ n x held. other_id x.id d.id (λ same. fresh n x d held (same ∙ ap (λ (o : Observation). o.id) (sym here)))))
+    or_from (is_held_id (map (exposure_of slots) listed) d.id) (list_any (λ e. pointwise nat_eq e.id d.id) (take k ds))
+    (none_held (λ p. pointwise nat_eq p.1.id d.id) slots listed (λ n x held. other_id x.id d.id (λ same. fresh n x d held (same ∙ ap (λ (o : Observation). o.id) (sym here)))))
     (any_none (λ (x : Observation). pointwise nat_eq x.id d.id) (take k ds) (λ j x l.
     let m : j < k = omega (arith, l, length-take k ds) in
     other_id (get_or (take k ds) j x).id d.id (λ same. apart j d m (ap (λ (o : Observation). o.id) (defaults ds k j d x l m) ∙ (same ∙ ap (λ (o : Observation). o.id) (sym here))))))
@@ -98,37 +98,37 @@ is_there [] i h e = omega arith
 is_there (d ∷ ds) zero h e = cc
 is_there (d ∷ ds) (suc i) h e = is_there ds i (omega arith) e
 
-taken_here : (slots : Slots) (groups : List Group) (a : AreGroups slots groups) (ds : Ds) (i : ℕ) (o : Option Observation) → slice_get ds i ≡ o → i < length ds → IsTaken (slot slots) ds i
-    → option_map_or (λ d. is_held_id (map (exposure_of slots) groups) d.id || list_any (λ e. pointwise nat_eq e.id d.id) (take i ds)) o false ≡ true
-taken_here slots groups a ds i None e l t = absurd (is_there ds i l e)
-taken_here slots groups a ds i (Some d) e l (inl (n, x, held, same)) =
+taken_here : (slots : Slots) (listed : List NumberedExposure) (a : AreListed slots listed) (ds : Ds) (i : ℕ) (o : Option Observation) → slice_get ds i ≡ o → i < length ds → IsTaken (slot slots) ds i
+    → option_map_or (λ d. is_held_id (map (exposure_of slots) listed) d.id || list_any (λ e. pointwise nat_eq e.id d.id) (take i ds)) o false ≡ true
+taken_here slots listed a ds i None e l t = absurd (is_there ds i l e)
+taken_here slots listed a ds i (Some d) e l (inl (n, x, held, same)) =
     let here : get_or ds i x ≡ d = get_or_from_slice_get ds i d x e in
-    or_left (is_held_id (map (exposure_of slots) groups) d.id) (list_any (λ e. pointwise nat_eq e.id d.id) (take i ds))
-    (some_held (λ p. pointwise nat_eq p.1.id d.id) slots groups a n x held (same_id x.id d.id (same ∙ ap (λ (o : Observation). o.id) here)))
-taken_here slots groups a ds i (Some d) e l (inr (j, m, same)) =
+    or_left (is_held_id (map (exposure_of slots) listed) d.id) (list_any (λ e. pointwise nat_eq e.id d.id) (take i ds))
+    (some_held (λ p. pointwise nat_eq p.1.id d.id) slots listed a n x held (same_id x.id d.id (same ∙ ap (λ (o : Observation). o.id) here)))
+taken_here slots listed a ds i (Some d) e l (inr (j, m, same)) =
     let here : get_or ds i d ≡ d = get_or_from_slice_get ds i d d e in
     let len : j < length (take i ds) = omega (arith, m, l, length-take i ds) in
-    or_right (is_held_id (map (exposure_of slots) groups) d.id) (list_any (λ e. pointwise nat_eq e.id d.id) (take i ds))
+    or_right (is_held_id (map (exposure_of slots) listed) d.id) (list_any (λ e. pointwise nat_eq e.id d.id) (take i ds))
     (any_at (λ (x : Observation). pointwise nat_eq x.id d.id) (take i ds) j (get_or (take i ds) j d) len (sym (read_default (take i ds) j (get_or (take i ds) j d) d len))
     (same_id (get_or (take i ds) j d).id d.id (ap (λ (o : Observation). o.id) (get_or-take i ds j d m) ∙ (same d ∙ ap (λ (o : Observation). o.id) here))))
 
-pub no_taken : (slots : Slots) (groups : List Group) (ds : Ds) → NoneTaken (slot slots) ds (length ds) → first_taken (map (exposure_of slots) groups) ds ≡ None
-no_taken slots groups ds none = pos_none (is_taken (map (exposure_of slots) groups) ds) 0 (length ds) (λ k l.
-    from_zero (is_taken (map (exposure_of slots) groups) ds) k false (not_taken slots groups ds k (slice_get ds k) refl (none.fresh k l) (none.apart k l)))
+pub no_taken : (slots : Slots) (listed : List NumberedExposure) (ds : Ds) → NoneTaken (slot slots) ds (length ds) → first_taken (map (exposure_of slots) listed) ds ≡ None
+no_taken slots listed ds none = pos_none (is_taken (map (exposure_of slots) listed) ds) 0 (length ds) (λ k l.
+    from_zero (is_taken (map (exposure_of slots) listed) ds) k false (not_taken slots listed ds k (slice_get ds k) refl (none.fresh k l) (none.apart k l)))
 
-pub taken_first : (slots : Slots) (groups : List Group) (a : AreGroups slots groups) (ds : Ds) (i : ℕ) → IsFirstTaken (slot slots) ds i → first_taken (map (exposure_of slots) groups) ds ≡ Some i
-taken_first slots groups a ds i first = zero_first (is_taken (map (exposure_of slots) groups) ds) (length ds) i (pos_first (is_taken (map (exposure_of slots) groups) ds) 0 (length ds) i first.within
-    (from_zero (is_taken (map (exposure_of slots) groups) ds) i true (taken_here slots groups a ds i (slice_get ds i) refl first.within first.taken))
-    (λ k l. from_zero (is_taken (map (exposure_of slots) groups) ds) k false (not_taken slots groups ds k (slice_get ds k) refl (first.earlier.fresh k l) (first.earlier.apart k l))))
+pub taken_first : (slots : Slots) (listed : List NumberedExposure) (a : AreListed slots listed) (ds : Ds) (i : ℕ) → IsFirstTaken (slot slots) ds i → first_taken (map (exposure_of slots) listed) ds ≡ Some i
+taken_first slots listed a ds i first = zero_first (is_taken (map (exposure_of slots) listed) ds) (length ds) i (pos_first (is_taken (map (exposure_of slots) listed) ds) 0 (length ds) i first.within
+    (from_zero (is_taken (map (exposure_of slots) listed) ds) i true (taken_here slots listed a ds i (slice_get ds i) refl first.within first.taken))
+    (λ k l. from_zero (is_taken (map (exposure_of slots) listed) ds) k false (not_taken slots listed ds k (slice_get ds k) refl (first.earlier.fresh k l) (first.earlier.apart k l))))
 
 -- ---- the room that is left
 
-length_map : (f : Group → HeldExposure) (gs : List Group) → length (map f gs) ≡ length gs
+length_map : (f : NumberedExposure → HeldExposure) (gs : List NumberedExposure) → length (map f gs) ≡ length gs
 length_map f [] = refl
 length_map f (g ∷ gs) = let e = length_map f gs in omega (arith, e)
 
 -- how many exposures a night has
-pub counted_night : (slots : Slots) (shift night : ℤ) (groups here : List Group) → here ≡ filter (is_of_night shift night) groups → length (of_night shift night (map (exposure_of slots) groups)) ≡ length here
-counted_night slots shift night groups here is =
-    ap length (filter_map_is (λ x. int_eq (night_at shift x.epoch) night) (exposure_of slots) groups)
-    ∙ (length_map (exposure_of slots) (filter (is_of_night shift night) groups) ∙ ap length (sym is))
+pub counted_night : (slots : Slots) (shift night : ℤ) (listed here : List NumberedExposure) → here ≡ filter (is_of_night shift night) listed → length (of_night shift night (map (exposure_of slots) listed)) ≡ length here
+counted_night slots shift night listed here is =
+    ap length (filter_map_is (λ x. int_eq (night_at shift x.epoch) night) (exposure_of slots) listed)
+    ∙ (length_map (exposure_of slots) (filter (is_of_night shift night) listed) ∙ ap length (sym is))

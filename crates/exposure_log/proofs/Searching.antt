@@ -1,4 +1,4 @@
--- What a search for a place says of the groups: which stand before it, at it and after it.
+-- What a search for a place says of the exposures: which stand before it, at it and after it.
 use Rattle.std.proofs.Common.{◌≡◌, ◌≢◌, ℕ, ◌<◌, ◌≤◌, ℤ, Bool, true, false, not, Option, Some, List, [], ◌∷◌, length, get_or, take, drop, map, refl, sym, ap, ◌∙◌, arith, zero, suc, inl, inr}
 use Rattle.std.specs.List.{list_any, slice_index, filter, remove}
 use Rattle.std.specs.declared.cmp.Ordering.{Ordering}
@@ -8,9 +8,10 @@ use Rattle.std.specs.Cmp.Lexicographic.{slice_cmp}
 use Rattle.std.proofs.lemmas.Cmp.{nat_list_cmp_total, tied_itself}
 use Rattle.std.proofs.lemmas.Bool.{cases_Bool, or_from, cases_order}
 use Rattle.miti_text.specs.Observation.{Observation}
-use Rattle.exposure_log.specs.declared.groups.Group.{Group}
-use Rattle.exposure_log.specs.Numbering.{slot}
-use Rattle.exposure_log.specs.Groups.{group_cmp, IsGroup, RiseStrictly, AreDistinct}
+use Rattle.exposure_log.specs.declared.numbered.NumberedExposure.{NumberedExposure}
+use Rattle.number_register.specs.Numbering.{slot}
+use Rattle.exposure_log.specs.Numbered.{numbered_cmp, IsNumbered, RiseStrictly}
+use Rattle.number_register.specs.Numbering.{AreDistinct}
 use Rattle.exposure_log.proofs.Order.{place_total, place_of, by_place}
 
 -- ---- lists and a test
@@ -83,21 +84,21 @@ filter_none_out p (x ∷ xs) none = elim (cases_Bool (p x)) [
 reversed : (a b c : Ordering) → a ≡ ordering_reverse b → b ≡ c → a ≡ ordering_reverse c
 reversed a b c e h = e ∙ ap ordering_reverse h
 
-pub other_place : (groups : List Group) (epoch : ℤ) (site : List ℕ) (i : ℕ) (g : Group) → RiseStrictly groups → i < length groups → group_cmp epoch site (get_or groups i g) ≡ Equal
-    → (k : ℕ) → k < length groups → k ≢ i → is_eq (group_cmp epoch site (get_or groups k g)) ≡ false
-other_place groups epoch site i g rise h found k l ne =
+pub other_place : (listed : List NumberedExposure) (epoch : ℤ) (site : List ℕ) (i : ℕ) (g : NumberedExposure) → RiseStrictly listed → i < length listed → numbered_cmp epoch site (get_or listed i g) ≡ Equal
+    → (k : ℕ) → k < length listed → k ≢ i → is_eq (numbered_cmp epoch site (get_or listed k g)) ≡ false
+other_place listed epoch site i g rise h found k l ne =
     let t : ℤ × List ℕ = (epoch, site) in
-    let moved = place_total.congr (place_of (get_or groups i g)) t (place_of (get_or groups k g)) found in
+    let moved = place_total.congr (place_of (get_or listed i g)) t (place_of (get_or listed k g)) found in
     elim (cases_order k i) [
       | inl e ↦ absurd (ne e)
       | inr (inl lt) ↦
-          let less : by_place (place_of (get_or groups k g)) (place_of (get_or groups i g)) ≡ Less = rise k i g lt h in
-          let more = reversed (by_place (place_of (get_or groups i g)) (place_of (get_or groups k g))) (by_place (place_of (get_or groups k g)) (place_of (get_or groups i g))) Less (place_total.antisymm (place_of (get_or groups i g)) (place_of (get_or groups k g))) less in
-          let back = reversed (by_place (place_of (get_or groups k g)) t) (by_place t (place_of (get_or groups k g))) Greater (place_total.antisymm (place_of (get_or groups k g)) t) (sym moved ∙ more) in
+          let less : by_place (place_of (get_or listed k g)) (place_of (get_or listed i g)) ≡ Less = rise k i g lt h in
+          let more = reversed (by_place (place_of (get_or listed i g)) (place_of (get_or listed k g))) (by_place (place_of (get_or listed k g)) (place_of (get_or listed i g))) Less (place_total.antisymm (place_of (get_or listed i g)) (place_of (get_or listed k g))) less in
+          let back = reversed (by_place (place_of (get_or listed k g)) t) (by_place t (place_of (get_or listed k g))) Greater (place_total.antisymm (place_of (get_or listed k g)) t) (sym moved ∙ more) in
           ap is_eq back
       | inr (inr gt) ↦
-          let less : by_place (place_of (get_or groups i g)) (place_of (get_or groups k g)) ≡ Less = rise i k g gt l in
-          let back = reversed (by_place (place_of (get_or groups k g)) t) (by_place t (place_of (get_or groups k g))) Less (place_total.antisymm (place_of (get_or groups k g)) t) (sym moved ∙ less) in
+          let less : by_place (place_of (get_or listed i g)) (place_of (get_or listed k g)) ≡ Less = rise i k g gt l in
+          let back = reversed (by_place (place_of (get_or listed k g)) t) (by_place t (place_of (get_or listed k g))) Less (place_total.antisymm (place_of (get_or listed k g)) t) (sym moved ∙ less) in
           ap is_eq back
     ]
 
@@ -107,8 +108,8 @@ less_is_not_equal r e h = let no : Equal ≡ Less = sym e ∙ h in cc
 not_itself : (id : List ℕ) → slice_cmp nat_cmp id id ≡ Less → ⊥
 not_itself id h = less_is_not_equal (slice_cmp nat_cmp id id) (tied_itself nat_list_cmp_total id) h
 
--- a group's numbers differ
-pub distinct_numbers : (slots : List (Option Observation)) (g : Group) → IsGroup slots g → AreDistinct g.numbers.items
+-- an exposure's numbers differ
+pub distinct_numbers : (slots : List (Option Observation)) (g : NumberedExposure) → IsNumbered slots g → AreDistinct g.numbers.items
 distinct_numbers slots g is j k l h same =
     let d = is.held k h in
     let there : slot slots (slice_index g.numbers.items j) ≡ Some d.0 = ap (slot slots) same ∙ d.1 in

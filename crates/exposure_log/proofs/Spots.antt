@@ -1,4 +1,4 @@
--- The spots of a night, group by group.
+-- The spots of a night, exposure by exposure.
 use Rattle.std.proofs.Common.{◌≡◌, ℕ, ◌+◌, ◌<◌, ℤ, Option, Some, None, List, [], ◌∷◌, ◌++◌, length, get_or, take, map, refl, sym, ap, ◌∙◌}
 use Rattle.std.specs.List.{filter}
 use Rattle.std.specs.Option.{option_map}
@@ -9,20 +9,20 @@ use Rattle.std.proofs.lemmas.Grind.{flat_map-append}
 use Rattle.sky_math.specs.Night.{night_at}
 use Rattle.sky_units.specs.SpotData.{SpotData}
 use Rattle.miti_text.specs.Observation.{Observation}
-use Rattle.exposure_log.specs.declared.groups.Group.{Group}
-use Rattle.exposure_log.specs.Numbering.{slot}
+use Rattle.exposure_log.specs.declared.numbered.NumberedExposure.{NumberedExposure}
+use Rattle.number_register.specs.Numbering.{slot}
 use Rattle.exposure_log.specs.Held.{HeldExposure, spot_of, detections_of, of_night}
-use Rattle.exposure_log.specs.Groups.{entries_of, exposure_of}
+use Rattle.exposure_log.specs.Numbered.{entries_of, exposure_of}
 use Rattle.exposure_log.proofs.Searching.{filter_map_is}
 
 abbrev Slots : Type 0
 Slots = List (Option Observation)
 
--- the spots of the groups
-abbrev pub spots : Slots → List Group → List SpotData
-spots slots groups = map spot_of (detections_of (map (exposure_of slots) groups))
+-- the spots of the exposures
+abbrev pub spots : Slots → List NumberedExposure → List SpotData
+spots slots listed = map spot_of (detections_of (map (exposure_of slots) listed))
 
-spots_append : (slots : Slots) (xs ys : List Group) → spots slots (xs ++ ys) ≡ spots slots xs ++ spots slots ys
+spots_append : (slots : Slots) (xs ys : List NumberedExposure) → spots slots (xs ++ ys) ≡ spots slots xs ++ spots slots ys
 spots_append slots xs ys =
     rw (
       map-append (exposure_of slots) xs ys,
@@ -30,18 +30,18 @@ spots_append slots xs ys =
       map-append spot_of (detections_of (map (exposure_of slots) xs)) (detections_of (map (exposure_of slots) ys)),
     ) refl
 
-one_group : (slots : Slots) (g : Group) → spots slots (g ∷ []) ≡ map spot_of (entries_of slots g.numbers.items)
-one_group slots g = rw (append-nil (entries_of slots g.numbers.items)) refl
+one_numbered : (slots : Slots) (g : NumberedExposure) → spots slots (g ∷ []) ≡ map spot_of (entries_of slots g.numbers.items)
+one_numbered slots g = rw (append-nil (entries_of slots g.numbers.items)) refl
 
-pub one_more : (slots : Slots) (groups : List Group) (i : ℕ) (g : Group) → i < length groups → g ≡ get_or groups i g
-    → spots slots (take (i + 1) groups) ≡ spots slots (take i groups) ++ map spot_of (entries_of slots g.numbers.items)
-one_more slots groups i g h is =
-    let step : take (i + 1) groups ≡ take i groups ++ g ∷ [] = take_more groups i g h ∙ ap (λ (x : Group). take i groups ++ x ∷ []) (sym is) in
-    rw (step, spots_append slots (take i groups) (g ∷ []), one_group slots g) refl
+pub one_more : (slots : Slots) (listed : List NumberedExposure) (i : ℕ) (g : NumberedExposure) → i < length listed → g ≡ get_or listed i g
+    → spots slots (take (i + 1) listed) ≡ spots slots (take i listed) ++ map spot_of (entries_of slots g.numbers.items)
+one_more slots listed i g h is =
+    let step : take (i + 1) listed ≡ take i listed ++ g ∷ [] = take_more listed i g h ∙ ap (λ (x : NumberedExposure). take i listed ++ x ∷ []) (sym is) in
+    rw (step, spots_append slots (take i listed) (g ∷ []), one_numbered slots g) refl
 
--- the spots of the groups of a night are those of its exposures
-pub night_spots : (slots : Slots) (shift night : ℤ) (groups : List Group) → spots slots (filter (λ g. int_eq (night_at shift g.epoch) night) groups) ≡ map spot_of (detections_of (of_night shift night (map (exposure_of slots) groups)))
-night_spots slots shift night groups = ap (λ (xs : List HeldExposure). map spot_of (detections_of xs)) (sym (filter_map_is (λ x. int_eq (night_at shift x.epoch) night) (exposure_of slots) groups))
+-- the spots of the exposures of a night are those of its exposures
+pub night_spots : (slots : Slots) (shift night : ℤ) (listed : List NumberedExposure) → spots slots (filter (λ g. int_eq (night_at shift g.epoch) night) listed) ≡ map spot_of (detections_of (of_night shift night (map (exposure_of slots) listed)))
+night_spots slots shift night listed = ap (λ (xs : List HeldExposure). map spot_of (detections_of xs)) (sym (filter_map_is (λ x. int_eq (night_at shift x.epoch) night) (exposure_of slots) listed))
 
 -- ---- number by number
 

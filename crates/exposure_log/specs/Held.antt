@@ -1,14 +1,15 @@
 -- The held exposures, the window of nights, and what a call does to them.
-use Rattle.std.specs.Prelude.{◌≡◌, ◌≢◌, slice_index_or, ℕ, ◌+◌, ◌<◌, ◌≤◌, nat_lt, nat_le, nat_eq, ℤ, pos, ◌-ℤ◌, Bool, true, false, not, ◌||◌, ◌==◌, if◌then◌else◌, Option, Some, None, List, [], ◌∷◌, ◌++◌, length, take, slice_get, map, ⊤, Result, MatchResult}
+use Rattle.std.specs.Prelude.{◌≡◌, ℕ, ◌+◌, ◌<◌, ◌≤◌, nat_lt, nat_le, nat_eq, ℤ, pos, ◌-ℤ◌, Bool, true, false, not, ◌||◌, ◌==◌, if◌then◌else◌, Option, Some, None, List, [], ◌∷◌, ◌++◌, length, take, slice_get, map, ⊤, Result, MatchResult}
 use Rattle.std.specs.List.{AllWithin, find, filter, flat_map, list_any, range_with_len}
 use Rattle.std.specs.Map.{lookup}
 use Rattle.std.specs.Option.{option_map_or}
-use Rattle.std.specs.Int.Signed.{lt_z}
+use Rattle.std.specs.Int.Signed.{lt_z, le_z}
 use Rattle.std.specs.declared.cmp.Ordering.{Ordering}
 use Rattle.std.specs.declared.cmp.Ordering.TheVariants.{Less, Greater}
 use Rattle.std.specs.Ordering.{int_cmp, int_eq, nat_cmp, ordering_then, is_lt, is_eq, is_gt}
 use Rattle.std.specs.Cmp.Lexicographic.{pointwise, slice_cmp}
 use Rattle.sky_math.specs.Night.{night_at}
+use Rattle.sky_units.specs.Limits.{most_nights}
 use Rattle.sky_units.specs.SpotData.{SpotData}
 use Rattle.miti_text.specs.Observation.{Observation}
 use Rattle.exposure_log.specs.declared.errors.AddError.{AddError}
@@ -115,13 +116,6 @@ refusal log x =
     else (if lt_z window.1 (night_at log.night_shift x.epoch) then Some New else held_refusal log x))
     log.window (Some NoWindow)
 
--- nothing that is held, and nothing in the exposure itself, stands against it, and there is room for it
-pub record CanBeHeld (log : LogData) (x : ExposureData) : Type 0 where
-  pub unheld : list_any (stands_at x.epoch x.site) log.exposures ≡ false
-  pub fresh : (k n : ℕ) (d e : Observation) → k < length x.detections → held_at log.exposures n ≡ Some d → d.id ≢ (slice_index_or x.detections k e).id
-  pub apart : (j k : ℕ) (e : Observation) → j < k → k < length x.detections → (slice_index_or x.detections j e).id ≢ (slice_index_or x.detections k e).id
-  pub room : length (detections_of log.exposures) + length x.detections ≤ most_detections
-
 -- a number is one of those that are taken
 abbrev pub is_among : ℕ → List ℕ → Bool
 is_among n taken = list_any (λ k. k == n) taken
@@ -137,7 +131,7 @@ AreLeastNumbers taken [] = ⊤
 AreLeastNumbers taken (n ∷ ns) = IsLeastNumber taken n × AreLeastNumbers (n ∷ taken) ns
 
 -- the exposure is held from now on, its detections with the least numbers that no held one had
-pub record Adds (old new : LogData) (x : ExposureData) : Type 0 where
+pub record TakesIn (old new : LogData) (x : ExposureData) : Type 0 where
   pub held : HeldExposure
   pub epoch : held.epoch ≡ x.epoch
   pub site : held.site ≡ x.site
@@ -149,7 +143,7 @@ pub record Adds (old new : LogData) (x : ExposureData) : Type 0 where
 abbrev pub window_refusal : Option (ℤ × ℤ) → ℤ → ℤ → Option WindowError
 window_refusal window lo hi =
     if lt_z hi lo then Some Order
-    else (if lt_z (pos 15) (hi -ℤ lo) then Some Wide
+    else (if le_z (pos most_nights) (hi -ℤ lo) then Some Wide
     else option_map_or (λ old. if lt_z lo old.0 || lt_z hi old.1 then Some Back else None) window None)
 
 -- the window is moved, and the nights before it are forgotten
@@ -165,5 +159,5 @@ abbrev pub spots_of_night : LogData → ℤ → List SpotData
 spots_of_night log night = map spot_of (detections_of (of_night log.night_shift night log.exposures))
 
 -- an answer that is Ok where nothing refuses, and names the cause where something does
-abbrev pub Answers : {T E : Type 0} → Option E → Result T E → Type 0
-Answers cause result = MatchResult result (λ _. cause ≡ None) (λ e. cause ≡ Some e)
+abbrev pub IsAnsweredAs : {T E : Type 0} → Option E → Result T E → Type 0
+IsAnsweredAs cause result = MatchResult result (λ _. cause ≡ None) (λ e. cause ≡ Some e)

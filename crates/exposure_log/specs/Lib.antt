@@ -1,9 +1,9 @@
-pub mod Numbering
-pub mod IdNumbers
 pub mod Held
+pub mod Orderly
 pub mod Exposures
-pub mod Groups
-pub mod NightGroups
+pub mod Numbered
+pub mod Nights
 pub mod Gathered
+pub mod HandedBack
 pub mod Deliveries
 pub mod Laws

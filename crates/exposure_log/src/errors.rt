@@ -1,3 +1,5 @@
+//! Why an exposure is not taken, and why the window is not moved.
+use crate::exposures::Exposure;
 use std::alloc::AllocError;
 use thiserror::Error;
 
@@ -42,6 +44,15 @@ impl From<AllocError> for AddError {
     }
 }
 
+/// Why an exposure that was handed over is not held.
+#[derive(Drop)]
+pub enum NotHeld {
+    /// The log doesn't take it, for this cause, which is never want of memory: it comes back as it was.
+    Refused(AddError, Exposure),
+    /// Memory was wanting.
+    NoMemory,
+}
+
 /// Why the window can't be moved. Each comes where its cause holds and no earlier one does;
 /// `NoMemory` never comes.
 #[derive(Clone, Copy, Debug, PartialEq, Eq, Error)]
@@ -49,8 +60,8 @@ pub enum WindowError {
     /// The last night lies before the first.
     #[error("the last night lies before the first")]
     Order,
-    /// The window has more than sixteen nights.
-    #[error("the window has more than sixteen nights")]
+    /// The window has more than thirty nights.
+    #[error("the window has more than thirty nights")]
     Wide,
     /// The first or the last night lies before that of the window.
     #[error("the window would move back")]

@@ -1,8 +1,10 @@
+//! Exposures, and gathering detections into them.
 ghost use Rattle.std.specs.Prelude.{◌≡◌, ◌<◌, ◌^◌, ◌-◌, IfOk, true, false, length, slice_index_or};
-ghost use Rattle.std.specs.List.{AllPairs, flat_map};
+ghost use Rattle.std.specs.List.{All, AllPairs, flat_map};
 ghost use Rattle.std.specs.Vec.{vec_len};
 ghost use Rattle.miti_text.specs.Observation.{Observation};
-ghost use Rattle.exposure_log.specs.Gathered.{IsGathered, Precedes, NotAfter, IsOfOnePlace, AreOfOnePlace};
+ghost use Rattle.exposure_log.specs.Deliveries.{AreExposuresOf, IsOneExposure};
+ghost use Rattle.exposure_log.specs.Gathered.{Precedes, NotAfter, IsOfOnePlace, AreOfOnePlace};
 ghost use Rattle.exposure_log.specs.Exposures.{IsExposure, IdsDontFall};
 
 use crate::canonical::{are_of_one_place, compare};
@@ -54,13 +56,60 @@ impl Exposure {
     {
         self.detections.as_slice()
     }
+
+    /// An exposure of the same detections.
+    pub(crate) fn copy(&self, alloc: Global) -> Result<Exposure, NoMemory>
+        ensures { IfOk result (λ copy. copy ≡ self.now) }
+    {
+        Ok(Exposure {
+            epoch: self.epoch,
+            site: self.site.clone()?,
+            detections: copies_of(alloc, self.detections.as_slice())?,
+        })
+    }
+
+    /// The epoch, the site and the detections, none of them copied.
+    pub(crate) fn into_parts(self) -> (i64, Word, Vec<Detection>)
+        ensures epoch { result.0 ≡ self.epoch }
+        ensures site { result.1 ≡ self.site }
+        ensures detections { result.2.items ≡ self.detections }
+        ensures keeps { IsExposure self }
+    {
+        (self.epoch, self.site, self.detections)
+    }
+}
+
+/// Detections of the same fields.
+fn copies_of(alloc: Global, detections: &[Detection]) -> Result<Vec<Detection>, NoMemory>
+    ensures { IfOk result (λ copies. copies.items ≡ detections.now) }
+{
+    let mut copies = Vec::with_capacity(alloc, detections.len())?;
+    for detection in detections {
+        copies.push(copy_of(detection)?)?;
+    }
+    Ok(copies)
+}
+
+/// A detection of the same fields.
+fn copy_of(detection: &Detection) -> Result<Detection, NoMemory>
+    ensures { IfOk result (λ copy. copy ≡ detection.now) }
+{
+    Ok(Detection {
+        id: detection.id.clone()?,
+        epoch: detection.epoch,
+        ra: detection.ra,
+        dec: detection.dec,
+        mag: detection.mag,
+        site: detection.site.clone()?,
+        name: detection.name.clone()?,
+    })
 }
 
 /// The exposures of the detections, in order of epoch and site. Within each the detections stand in
 /// order of their ids; equal ids keep their order.
 pub fn gather(alloc: Global, list: Vec<Detection>) -> Result<Vec<Exposure>, NoMemory>
     requires { vec_len list < 2 ^ 32 }
-    ensures { IfOk result (λ exposures. IsGathered list.items exposures.items) }
+    ensures { IfOk result (λ exposures. AreExposuresOf list.items exposures.items) }
 {
     let mut sorted = list;
     sorted.sort_by(compare)?;
@@ -71,7 +120,7 @@ pub fn gather(alloc: Global, list: Vec<Detection>) -> Result<Vec<Exposure>, NoMe
 fn cut(alloc: Global, sorted: Vec<Detection>) -> Result<Vec<Exposure>, NoMemory>
     requires few { vec_len sorted < 2 ^ 32 }
     requires order { AllPairs NotAfter sorted.items }
-    ensures { IfOk result (λ exposures. AllPairs Precedes exposures.items × (flat_map (λ x. x.detections) exposures.items ≡ sorted.items)) }
+    ensures { IfOk result (λ exposures. AllPairs Precedes exposures.items × All IsOneExposure exposures.items × (flat_map (λ x. x.detections) exposures.items ≡ sorted.items)) }
 {
     let mut rest = sorted;
     rest.as_mut_slice().reverse();

@@ -1,22 +1,22 @@
 //! What holds of each log and each delivery.
-ghost use Rattle.exposure_log.specs.Laws.{AddsAgree, SomeAdd, ExposuresAgree, SomeExposures};
+ghost use Rattle.exposure_log.specs.Laws.{AddIsUnique, AddExists, ExposuresAreUnique, ExposuresExist};
 
 /// A law: a log has one way to take an exposure.
-pub fn adds_agree()
-    ensures { AddsAgree }
+pub fn add_is_unique()
+    ensures { AddIsUnique }
 {}
 
 /// A law: a log has a way to take each exposure.
-pub fn some_add()
-    ensures { SomeAdd }
+pub fn add_exists()
+    ensures { AddExists }
 {}
 
 /// A law: a delivery of detections has one list of exposures.
-pub fn exposures_agree()
-    ensures { ExposuresAgree }
+pub fn exposures_are_unique()
+    ensures { ExposuresAreUnique }
 {}
 
 /// A law: each delivery of detections has exposures.
-pub fn some_exposures()
-    ensures { SomeExposures }
+pub fn exposures_exist()
+    ensures { ExposuresExist }
 {}

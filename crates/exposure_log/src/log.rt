@@ -1,30 +1,31 @@
-ghost use Rattle.std.specs.Prelude.{◌≡◌, ◌≢◌, ℕ, ℤ, ◌+◌, ◌^◌, ◌<◌, ◌≤◌, ◌<ℤ◌, pos, neg_ℤ, [], None, Some, IsSome, IfOk, IfErr, OnErr, OnOk, ◌++◌, length, map, nat_le, nat_lt, option_copied};
-ghost use Rattle.std.specs.List.{list_any};
+//! The log of held exposures.
+ghost use Rattle.std.specs.Prelude.{◌≡◌, ◌≢◌, ℕ, ℤ, ◌+◌, ◌^◌, ◌<◌, ◌≤◌, ◌<ℤ◌, pos, neg_ℤ, [], None, Some, IsSome, IsTrue, IfOk, IfErr, OnErr, OnOk, ◌++◌, length, map, nat_le, nat_lt, option_copied};
+ghost use Rattle.std.specs.List.{All, list_any};
 ghost use Rattle.sky_math.specs.Night.{night_at};
 ghost use Rattle.std.specs.Ordering.{is_lt};
-ghost use Rattle.sky_units.specs.Ranges.{IsNightShift};
-ghost use Rattle.miti_text.specs.Observation.{Observation};
+ghost use Rattle.sky_units.specs.Limits.{IsNear};
+ghost use Rattle.sky_units.specs.SettingRanges.{IsNightShift};
+ghost use Rattle.miti_text.specs.Observation.{Observation, is_id};
 ghost use Rattle.miti_text.specs.CanonicalOrder.{canonical_cmp};
-ghost use Rattle.exposure_log.specs.Groups.{NoneTaken, IsFirstTaken, AreGroups, entries_of, exposure_of};
-ghost use Rattle.exposure_log.specs.NightGroups.{groups_of, IsPlaceFor};
-ghost use Rattle.exposure_log.specs.Numbering.{slot};
+ghost use Rattle.exposure_log.specs.Numbered.{NoneTaken, IsFirstTaken, AreListed, entries_of, exposure_of};
+ghost use Rattle.exposure_log.specs.Nights.{listed_of, IsPlaceFor};
+ghost use Rattle.number_register.specs.Numbering.{slot};
 ghost use Rattle.exposure_log.specs.Exposures.{IsExposure, IdsDontFall};
-ghost use Rattle.exposure_log.specs.Held.{LogData, Adds, CanBeHeld, Answers, refusal, held_refusal, room_refusal, held_at, detections_of, stands_at, without_exposure, from_night, window_refusal, moved, spots_of_night, spot_of, of_night, most_of_a_night, most_detections};
+ghost use Rattle.exposure_log.specs.Held.{LogData, TakesIn, IsAnsweredAs, refusal, held_refusal, room_refusal, held_at, detections_of, stands_at, without_exposure, from_night, window_refusal, moved, spots_of_night, spot_of, of_night, most_of_a_night, most_detections};
+ghost use Rattle.exposure_log.specs.HandedBack.{IsHandedBack};
+ghost use Rattle.exposure_log.specs.Orderly.{IsOrderly};
 ghost use Rattle.exposure_log.specs.declared.errors.AddError.TheVariants.{NoMemory as no_memory};
 
 use crate::canonical::compare;
-use crate::errors::{AddError, WindowError};
+use crate::errors::{AddError, NotHeld, WindowError};
 use crate::exposures::Exposure;
-use crate::groups::{Group, let_go_all, let_go_groups, search, take_all};
 use crate::nights::{HeldNights, NightPlace};
-use crate::numbering::Register;
+use crate::numbered::{NumberedExposure, let_go_listed, search};
 use miti_text::Detection;
-use sky_units::{NoMemory, Spot, Word, night_of};
+use number_register::{Register, let_go_all, take_all};
+use sky_units::{MOST_NIGHTS, NoMemory, Spot, night_of};
 use std::alloc::Global;
 use std::marker::Model;
-
-/// The most nights that a window has, less one.
-const WIDEST: i64 = 15;
 
 /// The most exposures of a night.
 const MOST_OF_A_NIGHT: usize = 4_096;
@@ -44,17 +45,18 @@ pub struct ExposureLog {
 }
 
 impl Model for ExposureLog {
-    ghost use Rattle.std.specs.Prelude.{◌≡◌, map, None, []};
-    ghost use Rattle.sky_units.specs.Ranges.{IsNightShift};
+    ghost use Rattle.std.specs.Prelude.{map};
+    ghost use Rattle.sky_units.specs.SettingRanges.{IsNightShift};
+    ghost use Rattle.exposure_log.specs.Orderly.{IsOrderly};
     ghost use Rattle.exposure_log.specs.Held.{LogData};
-    ghost use Rattle.exposure_log.specs.Groups.{exposure_of, AreGroups};
-    ghost use Rattle.exposure_log.specs.NightGroups.{groups_of};
+    ghost use Rattle.exposure_log.specs.Numbered.{exposure_of, AreListed};
+    ghost use Rattle.exposure_log.specs.Nights.{listed_of};
 
     ghost Value = { LogData };
 
-    ghost view = { λ log. record { night_shift = log.nights.shift; window = log.window; exposures = map (exposure_of log.register) (groups_of log.nights) } };
+    ghost view = { λ log. record { night_shift = log.nights.shift; window = log.window; exposures = map (exposure_of log.register) (listed_of log.nights) } };
 
-    ghost invariant = { λ log. IsNightShift log.nights.shift × AreGroups log.register (groups_of log.nights) × (log.window ≡ None → groups_of log.nights ≡ []) };
+    ghost invariant = { λ log. IsNightShift log.nights.shift × AreListed log.register (listed_of log.nights) × IsOrderly (record { night_shift = log.nights.shift; window = log.window; exposures = map (exposure_of log.register) (listed_of log.nights) }) };
 }
 
 impl ExposureLog {
@@ -83,7 +85,8 @@ impl ExposureLog {
 
     /// The first and the last night of the window, if one was set.
     pub fn window(&self) -> Option<(i64, i64)>
-        ensures { result ≡ self.now.window }
+        ensures value { result ≡ self.now.window }
+        ensures orderly { IsOrderly self.now }
     {
         self.window
     }
@@ -91,16 +94,13 @@ impl ExposureLog {
     /// Whether the window can be moved to these nights, or the first cause why not. `NoMemory`
     /// never comes.
     pub fn check_window(&self, lo: i64, hi: i64) -> Result<(), WindowError>
-        requires lo_from { neg_ℤ (pos (10 ^ 18)) <ℤ lo }
-        requires lo_to { lo <ℤ pos (10 ^ 18) }
-        requires hi_from { neg_ℤ (pos (10 ^ 18)) <ℤ hi }
-        requires hi_to { hi <ℤ pos (10 ^ 18) }
-        ensures { Answers (window_refusal self.now.window lo hi) result }
+        requires { IsNear (lo, hi) }
+        ensures { IsAnsweredAs (window_refusal self.now.window lo hi) result }
     {
         if hi < lo {
             return Err(WindowError::Order);
         }
-        if hi - lo > WIDEST {
+        if hi - lo >= MOST_NIGHTS {
             return Err(WindowError::Wide);
         }
         if let Some((first, last)) = self.window {
@@ -120,29 +120,48 @@ impl ExposureLog {
         ensures found { result ≡ list_any (stands_at epoch site.now) self.old.exposures }
         ensures rest { self.new ≡ record self.old { exposures = without_exposure epoch site.now self.old.exposures } }
     {
-        let Some(group) = self.nights.take(epoch, site) else {
+        let Some(numbered) = self.nights.take(epoch, site) else {
             return false;
         };
-        let_go_all(&mut self.register, group.numbers.as_slice());
+        let_go_all(&mut self.register, numbered.numbers.as_slice());
         true
     }
 
     /// Holds the exposure from now on; the number of its detections. Each takes the least number
-    /// that is left.
+    /// that is left. The exposure itself is held, and no copy of it; one that is refused comes back.
+    pub fn hold(&mut self, exposure: Exposure) -> Result<u32, NotHeld>
+        ensures ok { IfOk result (λ n. (refusal self.old exposure ≡ None) × (n ≡ length exposure.detections) × TakesIn self.old self.new exposure) }
+        ensures err { IfErr result (λ e. (self.new ≡ self.old) × IsHandedBack self.old exposure e) }
+        ensures keeps { IfOk result (λ _. IsExposure exposure) }
+        ensures ids { IfOk result (λ _. All (λ d. IsTrue (is_id d.id)) exposure.detections) }
+    {
+        let place = match self.place_for(&exposure) {
+            Ok(place) => place,
+            Err(error) => return Err(NotHeld::Refused(error, exposure)),
+        };
+        match self.put(place, exposure) {
+            Ok(count) => Ok(count),
+            Err(_) => Err(NotHeld::NoMemory),
+        }
+    }
+
+    /// Holds a copy of the exposure, as `hold` does.
     pub fn add(&mut self, exposure: &Exposure) -> Result<u32, AddError>
-        ensures ok { IfOk result (λ n. (refusal self.old exposure.now ≡ None) × (n ≡ length exposure.now.detections) × Adds self.old self.new exposure.now) }
+        ensures ok { IfOk result (λ n. (refusal self.old exposure.now ≡ None) × (n ≡ length exposure.now.detections) × TakesIn self.old self.new exposure.now) }
         ensures err { IfErr result (λ e. (self.new ≡ self.old) × (e ≢ no_memory → refusal self.old exposure.now ≡ Some e)) }
         ensures keeps { IfOk result (λ _. IsExposure exposure.now) }
+        ensures ids { IfOk result (λ _. All (λ d. IsTrue (is_id d.id)) exposure.now.detections) }
     {
         let place = self.place_for(exposure)?;
-        Ok(self.put(place, exposure)?)
+        let copy = exposure.copy(self.alloc)?;
+        Ok(self.put(place, copy)?)
     }
 
     /// The place of the exposure in its night, or the first cause for which the log doesn't take it.
     fn place_for(&self, exposure: &Exposure) -> Result<NightPlace, AddError>
-        ensures place { IfOk result (λ place. (refusal self.now exposure.now ≡ None) × CanBeHeld self.now exposure.now × IsPlaceFor self.now exposure.now place) }
-        ensures window { IfOk result (λ _. IsSome self.now.window) }
+        ensures place { IfOk result (λ place. (refusal self.now exposure.now ≡ None) × IsPlaceFor self.now exposure.now place) }
         ensures cause { IfErr result (λ e. refusal self.now exposure.now ≡ Some e) }
+        ensures ids { IfOk result (λ _. All (λ d. IsTrue (is_id d.id)) exposure.now.detections) }
     {
         let Some((lo, hi)) = self.window else {
             return Err(AddError::NoWindow);
@@ -160,8 +179,9 @@ impl ExposureLog {
     /// The same for an exposure whose night lies in the window.
     fn place_in_window(&self, exposure: &Exposure, night: i64) -> Result<NightPlace, AddError>
         requires { night ≡ night_at self.now.night_shift exposure.now.epoch }
-        ensures place { IfOk result (λ place. (held_refusal self.now exposure.now ≡ None) × CanBeHeld self.now exposure.now × IsPlaceFor self.now exposure.now place) }
+        ensures place { IfOk result (λ place. (held_refusal self.now exposure.now ≡ None) × IsPlaceFor self.now exposure.now place) }
         ensures cause { IfErr result (λ e. held_refusal self.now exposure.now ≡ Some e) }
+        ensures ids { IfOk result (λ _. All (λ d. IsTrue (is_id d.id)) exposure.now.detections) }
     {
         let epoch = exposure.epoch();
         let Err(index) = search(self.nights.of_night(night), epoch, exposure.site()) else {
@@ -180,7 +200,6 @@ impl ExposureLog {
     fn refuses_for_room(&self, exposure: &Exposure, night: i64) -> Option<AddError>
         requires { night ≡ night_at self.now.night_shift exposure.now.epoch }
         ensures cause { result ≡ room_refusal self.now exposure.now }
-        ensures free { result ≡ None → length (detections_of self.now.exposures) + length exposure.now.detections ≤ most_detections }
     {
         if self.is_night_full(night) {
             return Some(AddError::NightFull);
@@ -198,7 +217,7 @@ impl ExposureLog {
         self.nights.of_night(night).len() >= MOST_OF_A_NIGHT
     }
 
-    /// Whether the log doesn't hold so many more detections.
+    /// Whether `more` detections would be more than the log holds.
     fn is_full_with(&self, more: usize) -> bool
         requires { more < 2 ^ 32 }
         ensures { result ≡ nat_lt most_detections (length (detections_of self.now.exposures) + more) }
@@ -207,25 +226,25 @@ impl ExposureLog {
     }
 
     /// Holds an exposure that nothing refuses, at its place in its night.
-    fn put(&mut self, place: NightPlace, exposure: &Exposure) -> Result<u32, NoMemory>
-        requires window { IsSome self.old.window }
-        requires free { CanBeHeld self.old exposure.now }
-        requires place { IsPlaceFor self.old exposure.now place }
-        ensures ok { IfOk result (λ n. (n ≡ length exposure.now.detections) × Adds self.old self.new exposure.now) }
+    fn put(&mut self, place: NightPlace, exposure: Exposure) -> Result<u32, NoMemory>
+        requires free { refusal self.old exposure ≡ None }
+        requires ids { All (λ d. IsTrue (is_id d.id)) exposure.detections }
+        requires place { IsPlaceFor self.old exposure place }
+        ensures ok { IfOk result (λ n. (n ≡ length exposure.detections) × TakesIn self.old self.new exposure) }
         ensures err { OnErr result (self.new ≡ self.old) }
-        ensures keeps { IsExposure exposure.now }
+        ensures keeps { IsExposure exposure }
     {
-        let epoch = exposure.epoch();
-        let site = Word::new(self.alloc, exposure.site())?;
+        let (epoch, site, detections) = exposure.into_parts();
+        let count = detections.len() as u32;
         self.nights.make_room(self.alloc, place.night)?;
-        let numbers = take_all(&mut self.register, self.alloc, exposure.detections())?;
-        let group = Group {
+        let numbers = take_all(&mut self.register, self.alloc, detections)?;
+        let numbered = NumberedExposure {
             epoch,
             site,
             numbers,
         };
-        self.nights.insert(place, group);
-        Ok(exposure.detections().len() as u32)
+        self.nights.insert(place, numbered);
+        Ok(count)
     }
 
     /// Moves the window to these nights, and forgets the nights before it. `check_window` must answer
@@ -293,6 +312,7 @@ fn first_taken(register: &Register, detections: &[Detection]) -> Option<u32>
     requires order { IdsDontFall detections.now }
     ensures none { result ≡ None → NoneTaken (slot register.now) detections.now (length detections.now) }
     ensures some { (i : ℕ) → result ≡ Some i → IsFirstTaken (slot register.now) detections.now i }
+    ensures ids { result ≡ None → All (λ d. IsTrue (is_id d.id)) detections.now }
 {
     for (place, detection) in detections.iter().enumerate() {
         if register.find(detection.id.bytes()).is_some() {
@@ -308,15 +328,15 @@ fn first_taken(register: &Register, detections: &[Detection]) -> Option<u32>
     None
 }
 
-/// Forgets the groups whose night lies before a night. This takes no memory.
+/// Forgets the exposures whose night lies before a night. This takes no memory.
 fn forget_before(register: &mut Register, nights: &mut HeldNights, night: i64)
-    requires { AreGroups register.old (groups_of nights.old) }
+    requires { AreListed register.old (listed_of nights.old) }
     ensures shift { nights.new.shift ≡ nights.old.shift }
-    ensures groups { AreGroups register.new (groups_of nights.new) }
-    ensures exposures { map (exposure_of register.new) (groups_of nights.new) ≡ from_night nights.old.shift night (map (exposure_of register.old) (groups_of nights.old)) }
+    ensures listed { AreListed register.new (listed_of nights.new) }
+    ensures exposures { map (exposure_of register.new) (listed_of nights.new) ≡ from_night nights.old.shift night (map (exposure_of register.old) (listed_of nights.old)) }
 {
-    while let Some(groups) = nights.take_before(night) {
-        let_go_groups(register, groups.as_slice());
+    while let Some(listed) = nights.take_before(night) {
+        let_go_listed(register, listed.as_slice());
     }
 }
 
@@ -332,18 +352,22 @@ fn labelled(number: u32, detection: &Detection) -> Spot
     }
 }
 
-/// The spots of the detections of these groups, in order.
-fn spots_of(alloc: Global, register: &Register, groups: &[Group]) -> Result<Vec<Spot>, NoMemory>
-    ensures { IfOk result (λ spots. spots.items ≡ map spot_of (detections_of (map (exposure_of register.now) groups.now))) }
+/// The spots of the detections of these exposures, in order.
+fn spots_of(
+    alloc: Global,
+    register: &Register,
+    listed: &[NumberedExposure],
+) -> Result<Vec<Spot>, NoMemory>
+    ensures { IfOk result (λ spots. spots.items ≡ map spot_of (detections_of (map (exposure_of register.now) listed.now))) }
 {
     let mut spots = Vec::new(alloc);
-    for group in groups {
-        push_spots(&mut spots, register, group.numbers.as_slice())?;
+    for numbered in listed {
+        push_spots(&mut spots, register, numbered.numbers.as_slice())?;
     }
     Ok(spots)
 }
 
-/// Adds the spots of the detections of these numbers.
+/// TakesIn the spots of the detections of these numbers.
 fn push_spots(spots: &mut Vec<Spot>, register: &Register, numbers: &[u32]) -> Result<(), NoMemory>
     ensures { OnOk result (spots.new.items ≡ spots.old.items ++ map spot_of (entries_of register.now numbers.now)) }
 {

@@ -1,52 +1,46 @@
+//! What the log answers and holds, on plain lines. Each answer is compared as text.
 use super::*;
 use miti_text::{Detection, read_line};
 use sky_units::NoMemory;
 use std::alloc::Global;
 
-/// The exposures of a list, which must be shorter than 2^32.
-pub(crate) fn exposures_of(alloc: Global, list: Vec<Detection>) -> Result<Vec<Exposure>, NoMemory> {
-    if list.len() > u32::MAX as usize {
-        return Ok(Vec::new(alloc));
-    }
-    gather(alloc, list)
-}
-
 /// Adds the detection of a line to the list.
-pub(crate) fn push_line(
-    alloc: Global,
-    list: &mut Vec<Detection>,
-    line: &str,
-) -> Result<(), NoMemory> {
+fn push_line(alloc: Global, list: &mut Vec<Detection>, line: &str) -> Result<(), NoMemory> {
     if let Ok(detection) = read_line(alloc, line.as_bytes()) {
         list.push(detection)?;
     }
     Ok(())
 }
 
-/// Whether adding the exposures of these lines, in order, answers as wanted: for each its epoch, its
-/// site and the answer.
-fn answers(
-    log: &mut ExposureLog,
-    alloc: Global,
-    lines: &str,
-    wants: &[(i64, &str, Result<u32, AddError>)],
-) -> Result<bool, NoMemory> {
+/// The exposures of a list, which must be shorter than 2^32.
+fn gathered(alloc: Global, list: Vec<Detection>) -> Result<Vec<Exposure>, NoMemory> {
+    if list.len() > u32::MAX as usize {
+        return Ok(Vec::new(alloc));
+    }
+    gather(alloc, list)
+}
+
+/// The exposures of the detections of these lines.
+fn exposures_of(alloc: Global, lines: &str) -> Result<Vec<Exposure>, NoMemory> {
     let mut list = Vec::new(alloc);
     for line in lines.lines() {
         push_line(alloc, &mut list, line)?;
     }
-    let exposures = exposures_of(alloc, list)?;
-    let mut right = exposures.len() == wants.len();
-    for (exposure, (epoch, site, want)) in exposures.iter().zip(wants) {
-        right &= exposure.epoch() == *epoch;
-        right &= exposure.site() == site.as_bytes();
-        right &= log.add(exposure) == *want;
+    gathered(alloc, list)
+}
+
+/// What the log answers to each exposure of these lines, one after another.
+fn answers(log: &mut ExposureLog, alloc: Global, lines: &str) -> Result<String, NoMemory> {
+    let mut rows = String::new(alloc);
+    for exposure in &exposures_of(alloc, lines)? {
+        let answer = log.add(exposure);
+        rows.push_str(format!(in alloc; "{answer:?} ")?.as_str())?;
     }
-    Ok(right)
+    Ok(rows)
 }
 
 /// Moves the window, where nothing stands against it; what stands against it.
-pub(crate) fn moved(log: &mut ExposureLog, lo: u32, hi: u32) -> Option<WindowError> {
+fn moved(log: &mut ExposureLog, lo: u32, hi: u32) -> Option<WindowError> {
     let lo = i64::from(lo);
     let hi = i64::from(hi);
     match log.check_window(lo, hi) {
@@ -58,112 +52,159 @@ pub(crate) fn moved(log: &mut ExposureLog, lo: u32, hi: u32) -> Option<WindowErr
     }
 }
 
+/// The numbers of a night's spots, in order.
+fn numbers(log: &ExposureLog, alloc: Global, night: i64) -> Result<String, NoMemory> {
+    let mut numbers = String::new(alloc);
+    for spot in &log.night(night)? {
+        numbers.push_str(format!(in alloc; "{} ", spot.num)?.as_str())?;
+    }
+    Ok(numbers)
+}
+
+#[test]
+fn gathered_by_epoch_and_site(rt: HostRuntime) -> Result<(), NoMemory> {
+    let alloc = rt.alloc();
+    let mut rows = String::new(alloc);
+    let lines = "b 59001.27 1 5 20 568 o\nc 59001.25 1 5 20 F51 o\na 59001.27 1 5 20 568 o";
+    for exposure in &exposures_of(alloc, lines)? {
+        let epoch = exposure.epoch();
+        let site = exposure.site();
+        let count = exposure.detections().len();
+        rows.push_str(format!(in alloc; "{epoch} {site:?} {count}\n")?.as_str())?;
+    }
+    assert!(rt; rows.as_str() == "59001250000 [70, 53, 49] 1\n59001270000 [53, 54, 56] 2\n");
+    Ok(())
+}
+
+#[test]
+fn refused_before_the_window(rt: HostRuntime) -> Result<(), NoMemory> {
+    let alloc = rt.alloc();
+    let mut log = ExposureLog::new(alloc, 0)?;
+    let answer = answers(&mut log, alloc, "a 59001.25 10 5 20 568 o")?;
+    assert!(rt; answer.as_str() == "Err(NoWindow) ");
+    Ok(())
+}
+
 #[test]
 fn refused_exposures(rt: HostRuntime) -> Result<(), NoMemory> {
     let alloc = rt.alloc();
     let mut log = ExposureLog::new(alloc, 0)?;
-    let right = answers(
-        &mut log,
-        alloc,
-        "a 59001.25 10 5 20 568 o",
-        [(59_001_250_000, "568", Err(AddError::NoWindow))].as_slice(),
-    )?;
-    assert!(rt; right, "before the window");
-    assert!(rt; moved(&mut log, 59_001, 59_016).is_none());
-    assert!(rt; log.window() == Some((59_001, 59_016)));
-    let right = answers(
-        &mut log,
-        alloc,
-        "a 59001.25 10 5 20 568 o\nb 59000.25 10 5 20 568 o\nc 59017.25 10 5 20 568 o",
-        [
-            (59_000_250_000, "568", Err(AddError::Old)),
-            (59_001_250_000, "568", Ok(1)),
-            (59_017_250_000, "568", Err(AddError::New)),
-        ]
-        .as_slice(),
-    )?;
-    assert!(rt; right, "old and new");
-    assert!(rt; log.exposures() == 1 && log.detections() == 1);
-    let right = answers(
-        &mut log,
-        alloc,
-        "d 59001.25 11 5 20 568 o\na 59001.27 10 5 20 568 o\ne 59001.25 11 5 20 F51 o",
-        [
-            (59_001_250_000, "568", Err(AddError::Held)),
-            (59_001_250_000, "F51", Ok(1)),
-            (59_001_270_000, "568", Err(AddError::Id(0))),
-        ]
-        .as_slice(),
-    )?;
-    assert!(rt; right, "held and an id");
+    moved(&mut log, 59_001, 59_030);
+    let lines = "a 59001.25 1 5 20 568 o\nb 59000.25 1 5 20 568 o\nc 59031.25 1 5 20 568 o";
+    let answer = answers(&mut log, alloc, lines)?;
+    assert!(rt; answer.as_str() == "Err(Old) Ok(1) Err(New) ");
+    let lines = "d 59001.25 1 5 20 568 o\na 59001.27 1 5 20 568 o\ne 59001.25 1 5 20 F51 o";
+    let answer = answers(&mut log, alloc, lines)?;
+    assert!(rt; answer.as_str() == "Err(Held) Ok(1) Err(Id(0)) ");
     assert!(rt; log.exposures() == 2 && log.detections() == 2);
     Ok(())
 }
 
 #[test]
-fn refused_settings_and_windows(rt: HostRuntime) -> Result<(), NoMemory> {
+fn windows_of_thirty_nights(rt: HostRuntime) -> Result<(), NoMemory> {
     let mut log = ExposureLog::new(rt.alloc(), 0)?;
-    log.set_shift(0);
-    let windows = [
-        (59_010, 59_009, Some(WindowError::Order)),
-        (59_000, 59_016, Some(WindowError::Wide)),
-        (59_001, 59_016, None),
-        (59_000, 59_015, Some(WindowError::Back)),
-    ];
-    for (lo, hi, want) in windows {
-        let right = moved(&mut log, lo, hi) == want;
-        assert!(rt; right, "{lo} {hi}");
-    }
-    assert!(rt; log.window() == Some((59_001, 59_016)));
+    assert!(rt; moved(&mut log, 59_010, 59_009) == Some(WindowError::Order));
+    assert!(rt; moved(&mut log, 59_000, 59_030) == Some(WindowError::Wide));
+    assert!(rt; moved(&mut log, 59_001, 59_030).is_none());
+    assert!(rt; moved(&mut log, 59_000, 59_029) == Some(WindowError::Back));
+    assert!(rt; log.window() == Some((59_001, 59_030)));
     Ok(())
 }
 
-/// Adds one exposure of so many detections; what that answers.
-fn added_at_once(
-    log: &mut ExposureLog,
-    alloc: Global,
-    count: u32,
-) -> Result<Vec<Result<u32, AddError>>, NoMemory> {
-    let mut list = Vec::new(alloc);
-    for number in 0..count {
-        let line = format!(in alloc; "{number:07} 59000.25 10 5 20 568 NS")?;
-        push_line(alloc, &mut list, line.as_str())?;
-    }
-    let mut answers = Vec::new(alloc);
-    for exposure in &exposures_of(alloc, list)? {
-        answers.push(log.add(exposure))?;
-    }
-    Ok(answers)
+#[test]
+fn nights_begin_before_zero_hours(rt: HostRuntime) -> Result<(), NoMemory> {
+    let alloc = rt.alloc();
+    let mut log = ExposureLog::new(alloc, 0)?;
+    log.set_shift(250_000);
+    moved(&mut log, 59_001, 59_002);
+    let lines =
+        "a 59000.749999 1 5 20 568 o\nb 59000.75 1 5 20 568 o\nc 59001.749999 1 5 20 568 o\n\
+d 59001.75 1 5 20 568 o\ne 59002.75 1 5 20 568 o";
+    let answer = answers(&mut log, alloc, lines)?;
+    assert!(rt; answer.as_str() == "Err(Old) Ok(1) Ok(1) Ok(1) Err(New) ");
+    let held = numbers(&log, alloc, 59_001)?;
+    assert!(rt; held.as_str() == "0 1 ");
+    Ok(())
+}
+
+/// A log of a night whose exposures came out of order, of which one was taken out again.
+fn night_out_of_order(alloc: Global) -> Result<ExposureLog, NoMemory> {
+    let mut log = ExposureLog::new(alloc, 0)?;
+    moved(&mut log, 59_000, 59_002);
+    answers(
+        &mut log,
+        alloc,
+        "c 59000.27 1 5 20 568 o\nd 59000.27 1 5 20 568 o",
+    )?;
+    answers(
+        &mut log,
+        alloc,
+        "a 59000.25 1 5 20 568 o\nb 59000.25 1 5 20 568 o",
+    )?;
+    answers(&mut log, alloc, "e 59000.25 1 5 20 F51 o")?;
+    log.remove(59_000_270_000, b"568".as_slice());
+    let lines = "f 59000.26 1 5 20 568 o\ng 59000.26 1 5 20 568 o\nh 59000.26 1 5 20 568 o";
+    answers(&mut log, alloc, lines)?;
+    Ok(log)
 }
 
 #[test]
-fn limits_of_a_night_and_of_the_log(rt: HostRuntime) -> Result<(), NoMemory> {
+fn numbers_and_order(rt: HostRuntime) -> Result<(), NoMemory> {
+    let alloc = rt.alloc();
+    let log = night_out_of_order(alloc)?;
+    let held = numbers(&log, alloc, 59_000)?;
+    assert!(rt; held.as_str() == "2 3 4 0 1 5 ");
+    assert!(rt; log.find(b"h".as_slice()) == Some(5));
+    if log.detection(4).is_some() && log.detection(0).is_some() {
+        assert!(rt; log.before(4, 0));
+    }
+    Ok(())
+}
+
+#[test]
+fn forgotten_with_the_window(rt: HostRuntime) -> Result<(), NoMemory> {
+    let mut log = night_out_of_order(rt.alloc())?;
+    assert!(rt; log.exposures() == 3);
+    moved(&mut log, 59_001, 59_002);
+    assert!(rt; log.exposures() == 0);
+    assert!(rt; log.find(b"h".as_slice()).is_none());
+    Ok(())
+}
+
+/// Holds each exposure of a list; how many are refused for one of their place, and come back.
+fn held(log: &mut ExposureLog, exposures: Vec<Exposure>) -> usize {
+    let mut back = 0_usize;
+    for exposure in exposures {
+        if let Err(NotHeld::Refused(AddError::Held, refused)) = log.hold(exposure) {
+            back = refused.detections().len();
+        }
+    }
+    back
+}
+
+#[test]
+fn held_by_value(rt: HostRuntime) -> Result<(), NoMemory> {
     let alloc = rt.alloc();
     let mut log = ExposureLog::new(alloc, 0)?;
-    assert!(rt; moved(&mut log, 59_000, 59_015).is_none());
-    for number in 0..4_097_u32 {
-        let line = format!(in alloc; "d{number} 59000.25 10 5 20 {number:04} NS")?;
-        let site = format!(in alloc; "{number:04}")?;
-        let want = if number < 4_096 {
-            Ok(1)
-        } else {
-            Err(AddError::NightFull)
-        };
-        let right = answers(
-            &mut log,
-            alloc,
-            line.as_str(),
-            [(59_000_250_000, site.as_str(), want)].as_slice(),
-        )?;
-        assert!(rt; right, "{number}");
+    moved(&mut log, 59_000, 59_002);
+    let lines = "a 59000.25 1 5 20 568 o\nb 59000.25 1 5 20 568 o";
+    assert!(rt; held(&mut log, exposures_of(alloc, lines)?) == 0);
+    assert!(rt; held(&mut log, exposures_of(alloc, lines)?) == 2);
+    assert!(rt; log.detections() == 2);
+    Ok(())
+}
+
+#[test]
+fn most_of_a_night(rt: HostRuntime) -> Result<(), NoMemory> {
+    let alloc = rt.alloc();
+    let mut log = ExposureLog::new(alloc, 0)?;
+    moved(&mut log, 59_000, 59_015);
+    for number in 0..4_096_u32 {
+        let line = format!(in alloc; "d{number} 59000.25 1 5 20 {number:04} NS")?;
+        answers(&mut log, alloc, line.as_str())?;
     }
     assert!(rt; log.exposures() == 4_096);
-    let mut log = ExposureLog::new(alloc, 0)?;
-    assert!(rt; moved(&mut log, 59_000, 59_015).is_none());
-    let answer = added_at_once(&mut log, alloc, 1_048_577)?;
-    assert!(rt; answer.as_slice() == [Err(AddError::Full)].as_slice());
-    let answer = added_at_once(&mut log, alloc, 1_048_576)?;
-    assert!(rt; answer.as_slice() == [Ok(1_048_576)].as_slice());
-    assert!(rt; log.detections() == 1_048_576);
+    let answer = answers(&mut log, alloc, "a 59000.26 1 5 20 568 o")?;
+    assert!(rt; answer.as_str() == "Err(NightFull) ");
     Ok(())
 }

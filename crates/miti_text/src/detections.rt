@@ -1,3 +1,4 @@
+//! A detection, as a line of seven words tells it.
 use sky_units::Word;
 use std::marker::Model;
 

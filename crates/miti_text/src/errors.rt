@@ -1,3 +1,4 @@
+//! Why a line is no detection line.
 use std::alloc::AllocError;
 use thiserror::Error;
 

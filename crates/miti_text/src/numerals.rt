@@ -1,3 +1,4 @@
+//! Whole numbers of digits, with and without a sign.
 ghost use Rattle.std.specs.Prelude.{◌≡◌, ◌^◌, ◌≤◌, min, length, Some, None, IfSome, if◌then◌else◌};
 ghost use Rattle.std.specs.List.{list_all, before_first, after_first, position_or_len};
 ghost use Rattle.std.specs.Char.{is_ascii_digit};
@@ -19,28 +20,6 @@ pub fn read_number(text: &[u8]) -> Option<i64>
     Some(signed(negative, read_size(digits)?))
 }
 
-/// Whether a text begins with a minus, and what follows it.
-fn split_minus(text: &[u8]) -> (bool, &[u8])
-    ensures minus { result.0 ≡ starts_with_minus text.now }
-    ensures rest { result.1.now ≡ without_minus text.now }
-{
-    match text {
-        [b'-', rest @ ..] => (true, rest),
-        _ => (false, text),
-    }
-}
-
-/// The number that one to eighteen digits write; None for any other text.
-fn read_size(digits: &[u8]) -> Option<u64>
-    ensures value { result ≡ size_of digits.now }
-    ensures range { IfSome result (λ size. size ≤ 10 ^ 18) }
-{
-    if digits.is_empty() || digits.len() > MOST_DIGITS {
-        return None;
-    }
-    read_digits(digits)
-}
-
 /// A number of this size, with its sign.
 pub fn signed(negative: bool, size: u64) -> i64
     requires { size ≤ 10 ^ 18 }
@@ -48,20 +27,6 @@ pub fn signed(negative: bool, size: u64) -> i64
 {
     let size = size as i64;
     if negative { -size } else { size }
-}
-
-/// The number that digits write, or `MOST` where it is greater; None where some byte is no digit.
-pub fn read_digits(text: &[u8]) -> Option<u64>
-    ensures { result ≡ (if list_all is_ascii_digit text.now then Some (min (digits_value 10 text.now) (10 ^ 18)) else None) }
-{
-    let mut value = 0;
-    for byte in text {
-        if !byte.is_ascii_digit() {
-            return None;
-        }
-        value = MOST.min(value * 10 + u64::from(*byte - b'0'));
-    }
-    Some(value)
 }
 
 /// Whether a text begins with a minus, and what follows its sign.
@@ -88,6 +53,42 @@ pub fn split_dot(text: &[u8]) -> (&[u8], &[u8])
     let (whole, rest) = text.split_at(dot);
     let (_, fraction) = rest.split_at(1);
     (whole, fraction)
+}
+
+/// Whether a text begins with a minus, and what follows it.
+fn split_minus(text: &[u8]) -> (bool, &[u8])
+    ensures minus { result.0 ≡ starts_with_minus text.now }
+    ensures rest { result.1.now ≡ without_minus text.now }
+{
+    match text {
+        [b'-', rest @ ..] => (true, rest),
+        _ => (false, text),
+    }
+}
+
+/// The number that one to eighteen digits write; None for any other text.
+fn read_size(digits: &[u8]) -> Option<u64>
+    ensures value { result ≡ size_of digits.now }
+    ensures range { IfSome result (λ size. size ≤ 10 ^ 18) }
+{
+    if digits.is_empty() || digits.len() > MOST_DIGITS {
+        return None;
+    }
+    read_digits(digits)
+}
+
+/// The number that digits write, or `MOST` where it is greater; None where some byte is no digit.
+pub fn read_digits(text: &[u8]) -> Option<u64>
+    ensures { result ≡ (if list_all is_ascii_digit text.now then Some (min (digits_value 10 text.now) (10 ^ 18)) else None) }
+{
+    let mut value = 0;
+    for byte in text {
+        if !byte.is_ascii_digit() {
+            return None;
+        }
+        value = MOST.min(value * 10 + u64::from(*byte - b'0'));
+    }
+    Some(value)
 }
 
 /// Where the first dot of a text stands, or the text's length where it has none.

@@ -1,3 +1,4 @@
+//! The words of a line, and the pieces of a decimal.
 ghost use Rattle.std.specs.Prelude.{◌≡◌, ◌∷◌, ◌≤◌, [], length, drop, not, MatchOption};
 ghost use Rattle.std.specs.List.{prefix_len, position_or_len};
 ghost use Rattle.miti_text.specs.Words.{is_blank, words, ends_word};
@@ -24,6 +25,16 @@ pub fn without_blanks(text: &[u8]) -> &[u8]
     text
 }
 
+/// Whether a word that ends where this text begins is over there: nothing or a blank follows.
+pub fn ends_word(text: &[u8]) -> bool
+    ensures { result ≡ ends_word text.now }
+{
+    match text {
+        [] => true,
+        [byte, ..] => is_blank(*byte),
+    }
+}
+
 /// How many blanks a text begins with.
 fn blanks_in_front(text: &[u8]) -> usize
     ensures blanks { result ≡ prefix_len is_blank text.now }
@@ -45,14 +56,4 @@ fn is_blank(byte: u8) -> bool
     ensures { result ≡ is_blank byte }
 {
     byte == b' ' || byte == b'\t'
-}
-
-/// Whether a word that ends where this text begins is over there: nothing or a blank follows.
-pub fn ends_word(text: &[u8]) -> bool
-    ensures { result ≡ ends_word text.now }
-{
-    match text {
-        [] => true,
-        [byte, ..] => is_blank(*byte),
-    }
 }

@@ -1,3 +1,4 @@
+//! Decimals as whole numbers of units, each in its range.
 ghost use Rattle.std.specs.Prelude.{◌≡◌, ◌+◌, ◌*◌, ◌^◌, ◌<◌, ◌≤◌, ◌==◌, true, length, nat_lt, nat_le, Some, None, IfSome, if◌then◌else◌};
 ghost use Rattle.std.specs.List.{list_all};
 ghost use Rattle.std.specs.Char.{is_ascii_digit};
@@ -90,8 +91,7 @@ pub fn read_quantity(quantity: Quantity, text: &[u8]) -> Option<i64>
     Some(quantity.keep(signed(negative, units)))
 }
 
-/// The units of the last of some places that a whole part and a fraction give, where their value
-/// is at most `limit`.
+/// The value of `whole.fraction` in units of 10^-places, to the nearest, where it is at most `limit`.
 fn read_units(whole: &[u8], fraction: &[u8], limit: u64, places: usize) -> Option<u64>
     requires places { places ≤ 6 }
     requires limit { limit ≤ 200000 }
@@ -151,6 +151,15 @@ fn read_fraction(fraction: &[u8], places: usize) -> Option<u64>
     Some(units * power_of_ten(places - kept) + rounding(rest))
 }
 
+/// A power of ten, up to the greatest that is wanted.
+pub fn power_of_ten(places: usize) -> u64
+    requires { places ≤ 12 }
+    ensures value { result ≡ 10 ^ places }
+    ensures positive { 0 < result }
+{
+    POWERS[places]
+}
+
 /// Whether each byte is a digit.
 fn are_digits(text: &[u8]) -> bool
     ensures { result ≡ list_all is_ascii_digit text.now }
@@ -167,13 +176,4 @@ fn rounding(digits: &[u8]) -> u64
         [] => 0,
         [first, ..] => u64::from(*first >= b'5'),
     }
-}
-
-/// A power of ten, up to the greatest that is wanted.
-pub fn power_of_ten(places: usize) -> u64
-    requires { places ≤ 12 }
-    ensures value { result ≡ 10 ^ places }
-    ensures positive { 0 < result }
-{
-    POWERS[places]
 }

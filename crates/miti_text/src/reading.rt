@@ -1,3 +1,4 @@
+//! Reading a detection line.
 ghost use Rattle.std.specs.Prelude.{◌≡◌, ◌<◌, length, true, MatchOption, IfSome, IfOk};
 ghost use Rattle.std.specs.List.{list_all};
 ghost use Rattle.miti_text.specs.Words.{words};

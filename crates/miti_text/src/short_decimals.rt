@@ -1,3 +1,4 @@
+//! Short decimals, read in the pass that looks for the end of their word.
 ghost use Rattle.std.specs.Prelude.{◌≡◌, ◌∷◌, ◌+◌, ◌*◌, ◌^◌, ◌<◌, ◌≤◌, [], ℕ, List, true, length, take, nat_le, Some, None, MatchOption, IfSome, if◌then◌else◌};
 ghost use Rattle.std.specs.List.{list_all};
 ghost use Rattle.std.specs.Char.{is_ascii_digit};
@@ -93,8 +94,8 @@ fn decimal_in_front(text: &[u8]) -> ShortDecimal<'_>
     }
 }
 
-/// Reads digits in front of a text, at most so many, behind those of a number: the number that they
-/// write together, and how many were read.
+/// Reads at most `most` digits in front of a text, as further digits of `number`: the number that
+/// all of them write, and how many were read.
 #[inline(always)]
 fn leading_digits(number: u64, text: &[u8], most: usize) -> (u64, usize)
     requires number { number < 10 ^ 6 }

@@ -1,3 +1,4 @@
+//! Lines that are read and written, at the edges of the grammar.
 use super::*;
 
 #[test]

@@ -1,3 +1,4 @@
+//! Writing a detection line.
 ghost use Rattle.std.specs.Prelude.{◌≡◌, ◌≤◌, ◌++◌, ◌∷◌, Ok, IfOk, OnOk};
 ghost use Rattle.miti_text.specs.Lines.{detection_of};
 ghost use Rattle.miti_text.specs.Written.{decimal_text, last_digits, line_of};

@@ -15,7 +15,7 @@ use Rattle.mops_run.specs.Answering.{FailsToAnswer, Finished, FailsToFinish}
 use Rattle.mops_run.specs.Promise.{WritesAll, WritesFront, Watches, IsSpent, SourceFaults, SinkFaults, refused_by, done_status}
 use Rattle.mops_run.specs.declared.top.Status.{Status}
 use Rattle.mops_run.specs.declared.top.Status.TheVariants.{Done, DoneWithRefusals, Usage, ReadFault, WriteFault, NoMemory, InputTooLong}
-use Rattle.mops_run.proofs.SoFar.{SoFar, NextLine, Adds-then, WritesFront-so_far, WritesFront-failed, WritesFront-unfinished, WritesFront-whole, WritesAll-end, Takes-within, or_true, risen-then}
+use Rattle.mops_run.proofs.SoFar.{SoFar, NextLine, WritesText-then, WritesFront-so_far, WritesFront-failed, WritesFront-unfinished, WritesFront-whole, WritesAll-end, Takes-within, or_true, risen-then}
 
 -- a write failed in the middle of the replies to a line
 pub Watches-write_fault : (source_old : Supply) (reader reader' : Reading) (source source' : Supply) (sink_old sink sink' : Receipt) (number : ℕ) (state : State) (refused : Bool)
@@ -134,7 +134,7 @@ finished_by : (status : Status) (source_old : Supply) (reader reader' : Reading)
 finished_by status source_old reader reader' source source' sink_old sink sink' number state refused bad by source_faults sink_faults not_long not_usage so over finished =
     let whole : IfSome source_old.left (λ input. WritesAll input sink_old sink' (refused || bad)) =
     WritesAll-end source_old reader source sink_old sink sink' number state refused bad so over.none_ahead finished in
-    let adds = Adds-then sink_old sink sink' (text_of_all so.replies) (text_of_all finished.given) so.adds finished.says.adds in
+    let adds = WritesText-then sink_old sink sink' (text_of_all so.replies) (text_of_all finished.given) so.adds finished.says.adds in
     record {
       whole = rw by whole;
       front = WritesFront-whole source_old.left sink_old sink' (refused || bad) whole;

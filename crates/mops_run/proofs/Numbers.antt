@@ -1,25 +1,44 @@
--- The numbers of a command are below 10^18: they have at most eighteen digits.
-use Rattle.std.proofs.Common.{◌≡◌, ℕ, ◌<◌, ◌≤◌, ◌^◌, ℤ, pos, neg_ℤ, ◌<ℤ◌, List, [], ◌∷◌, length, refl, ap, sym, ◌∙◌, arith, Bool, true, false, cond}
-use Rattle.std.specs.Prelude.{Option, Some, None, Result, Ok, Err, ◌&&◌, nat_lt, nat_le, bytes_eq, codes, not, ◌==◌, slice_index}
+-- What a line says keeps to its rules: the numbers of a command are below 10^18, as they have at most eighteen digits, and the id of
+-- a detection keeps the rule of ids.
+use Rattle.std.proofs.Common.{◌≡◌, ℕ, ◌<◌, ◌≤◌, ◌^◌, ℤ, List, [], ◌∷◌, length, refl, arith, Bool, true, false, cond}
+use Rattle.std.specs.Prelude.{neg_ℤ, ◌<ℤ◌, pos, IsTrue, Option, Some, None, Result, Ok, Err, ◌&&◌, nat_lt, nat_le, bytes_eq, codes, not, ◌==◌, slice_index}
 use Rattle.std.specs.List.{list_all}
 use Rattle.std.specs.Char.{is_ascii_digit}
 use Rattle.std.specs.Str.Parse.{digits_value, starts_with_minus}
 use Rattle.std.proofs.lemmas.Int.{ints}
 use Rattle.std.proofs.Math.Nat.{pow-le-pow_right}
 use Rattle.std.proofs.lemmas.Bool.Decides.{nat_tests}
-use Rattle.miti_text.specs.Numerals.{number_of, size_of, signed, with_sign, without_minus}
-use Rattle.miti_text.specs.Observation.{Observation}
+use Rattle.miti_text.specs.Numerals.{number_of, signed, with_sign, without_minus}
+use Rattle.miti_text.specs.Observation.{Observation, is_id, is_site, is_name}
 use Rattle.miti_text.specs.Words.{is_blank, words}
-use Rattle.miti_text.specs.Lines.{is_text, detection_of}
+use Rattle.miti_text.specs.Lines.{is_text, fields_of, observation_of, detection_of, check as check_rule, or_error as or_line_error, ◌>>=◌ as ◌>>>=◌}
 use Rattle.miti_text.specs.declared.errors.LineError.{LineError}
+use Rattle.miti_text.specs.declared.errors.LineError.TheVariants.{Id, Epoch, Ra, Dec, Mag, Site, Name, Long, Byte}
 use Rattle.miti_text.proofs.DigitTexts.{value_below}
-use Rattle.script_text.specs.Commands.{command_of, set_of, window_of, tracklets_of, alone, one_of, two_of, or_error, ◌>>=◌}
+use Rattle.script_text.specs.Commands.{command_of, alone, one_of, two_of, or_error, ◌>>=◌}
 use Rattle.script_text.specs.Script.{script_line_of, detection_line}
-use Rattle.script_text.specs.declared.script.Line.{Line}
-use Rattle.script_text.specs.declared.script.Line.TheVariants as lines
+use Rattle.script_text.specs.declared.lines.Line.{Line}
+use Rattle.script_text.specs.declared.lines.Line.TheVariants as lines
 use Rattle.script_text.specs.declared.errors.ScriptError.{ScriptError}
 use Rattle.script_text.specs.declared.errors.ScriptError.TheVariants.{Words, Number}
-use Rattle.mops_run.specs.Commands.{IsSmall, HasSmallWindow}
+use Rattle.mops_run.specs.declared.lines.Said.{Said}
+use Rattle.mops_run.specs.declared.lines.Said.TheVariants.{Nothing, Waits, Refused, Asks, Malformed}
+use Rattle.mops_run.specs.Lines.{said_of, said_by, IsNearCommand, IsNearLine}
+
+-- less than 10^18 in absolute value
+abbrev IsSmall : ℤ → Type 0
+IsSmall z = (neg_ℤ (pos (10 ^ 18)) <ℤ z) × (z <ℤ pos (10 ^ 18))
+
+-- a window's nights are near, and the id of a detection keeps its rule
+abbrev KeepsRules : Said → Type 0
+KeepsRules (Asks command) = IsNearCommand command
+KeepsRules (Waits d) = IsTrue (is_id d.id)
+KeepsRules Nothing = Unit {0}
+KeepsRules (Refused error) = Unit {0}
+KeepsRules (Malformed error) = Unit {0}
+
+abbrev HasSmallWindow : Result Line ScriptError → Type 0
+HasSmallWindow said = KeepsRules (said_of said)
 
 -- a number that is small, where there is one
 abbrev IsSmallNumber : Option ℤ → Type 0
@@ -51,7 +70,7 @@ either false x y h k = k
 both_numbers : (low high : Option ℤ) → IsSmallNumber low → IsSmallNumber high → HasSmallWindow (or_error Number low >>= λ lo. or_error Number high >>= λ hi. Ok (lines.Window lo hi))
 both_numbers None high h k = tt
 both_numbers (Some lo) None h k = tt
-both_numbers (Some lo) (Some hi) h k = (h, k)
+both_numbers (Some lo) (Some hi) h k = record { lo_from = h.0; lo_to = h.1; hi_from = k.0; hi_to = k.1 }
 
 window_small : (pair : Option (List ℕ × List ℕ)) → HasSmallWindow (or_error Words pair >>= λ p. or_error Number (number_of p.0) >>= λ lo. or_error Number (number_of p.1) >>= λ hi. Ok (lines.Window lo hi))
 window_small None = tt
@@ -87,15 +106,76 @@ command_small (name ∷ ws) =
     either (bytes_eq name (codes "!report")) _ _ (alone_small ws).0 (
     either (bytes_eq name (codes "!stats")) _ _ (alone_small ws).1 tt))))
 
-detection_small : (d : Result Observation LineError) → HasSmallWindow (detection_line d)
-detection_small (Ok d) = tt
-detection_small (Err e) = tt
+-- ---- the id of a detection line
+abbrev OfRule : Result Observation LineError → Type 0
+OfRule (Ok d) = IsTrue (is_id d.id)
+OfRule (Err e) = Unit {0}
 
-pub line_small : (line : List ℕ) → HasSmallWindow (script_line_of line)
+then : {A : Type 0} (r : Result A LineError) (f : A → Result Observation LineError) → ((x : A) → OfRule (f x)) → OfRule (r >>>= f)
+then (Ok x) f h = h x
+then (Err e) f h = tt
+
+by_id : (b : Bool) (rest : ℕ → Result Observation LineError) → (b ≡ true → OfRule (rest 0)) → OfRule (check_rule b Id >>>= rest)
+by_id true rest h = h refl
+by_id false rest h = tt
+
+fields_keep : (id : List ℕ) (epoch ra dec mag : Option ℤ) (site name : List ℕ) → OfRule (fields_of id epoch ra dec mag site name)
+unfolding fields_of
+fields_keep id epoch ra dec mag site name = by_id (is_id id) _ (λ is.
+    then (or_line_error Epoch epoch) _ (λ at. then (or_line_error Ra ra) _ (λ right. then (or_line_error Dec dec) _ (λ up. then (or_line_error Mag mag) _ (λ faint.
+    then (check_rule (is_site site) Site) _ (λ s. then (check_rule (is_name name) Name) _ (λ n. is)))))))
+
+observation_keeps : (ws : List (List ℕ)) → OfRule (observation_of ws)
+observation_keeps [] = tt
+observation_keeps (a ∷ []) = tt
+observation_keeps (a ∷ b ∷ []) = tt
+observation_keeps (a ∷ b ∷ c ∷ []) = tt
+observation_keeps (a ∷ b ∷ c ∷ d ∷ []) = tt
+observation_keeps (a ∷ b ∷ c ∷ d ∷ e ∷ []) = tt
+observation_keeps (a ∷ b ∷ c ∷ d ∷ e ∷ f ∷ []) = tt
+observation_keeps (id ∷ epoch ∷ ra ∷ dec ∷ mag ∷ site ∷ name ∷ more) = fields_keep id _ _ _ _ site name
+
+detection_keeps : (line : List ℕ) → OfRule (detection_of line)
+unfolding detection_of
+detection_keeps line = then (check_rule (nat_le (length line) 1024) Long) _ (λ s. then (check_rule (list_all is_text line) Byte) _ (λ b. observation_keeps (words line)))
+
+detection_small : (d : Result Observation LineError) → OfRule d → HasSmallWindow (detection_line d)
+detection_small (Ok d) h = h
+detection_small (Err e) h = tt
+
+line_small : (line : List ℕ) → HasSmallWindow (script_line_of line)
 unfolding script_line_of
 line_small line =
     either (slice_index line 0 == 35) _ _ tt (
     either (nat_lt 1024 (length line)) _ _ tt (
     either (list_all is_blank line) _ _ tt (
     either (not (list_all is_text line)) _ _ tt (
-    either (slice_index line 0 == 33) _ _ (command_small (words line)) (detection_small (detection_of line))))))
+    either (slice_index line 0 == 33) _ _ (command_small (words line)) (detection_small (detection_of line) (detection_keeps line))))))
+
+near : (said : Said) → KeepsRules said → IsNearLine said
+near (Asks command) h = h
+near (Waits d) h = tt
+near Nothing h = tt
+near (Refused error) h = tt
+near (Malformed error) h = tt
+
+pub line_near : (line : List ℕ) → IsNearLine (said_by line)
+line_near line = near (said_by line) (line_small line)
+
+-- the id of a detection that waits keeps its rule
+abbrev pub HasIdRule : Said → Type 0
+HasIdRule (Waits d) = IsTrue (is_id d.id)
+HasIdRule Nothing = Unit {0}
+HasIdRule (Refused error) = Unit {0}
+HasIdRule (Asks command) = Unit {0}
+HasIdRule (Malformed error) = Unit {0}
+
+id_rule : (said : Said) → KeepsRules said → HasIdRule said
+id_rule (Waits d) h = h
+id_rule (Asks command) h = tt
+id_rule Nothing h = tt
+id_rule (Refused error) h = tt
+id_rule (Malformed error) h = tt
+
+pub line_ids : (line : List ℕ) → HasIdRule (said_by line)
+line_ids line = id_rule (said_by line) (line_small line)

@@ -1,5 +1,5 @@
 -- What holds of a run between two lines.
-use Rattle.std.proofs.Common.{◌≡◌, ℕ, suc, ◌+◌, ◌-◌, ◌^◌, ◌<◌, ◌≤◌, ◌++◌, List, [], ◌∷◌, length, refl, sym, ◌∙◌, ap, subst, append_assoc, append-nil, arith, Bool, true, false, ◌||◌, inl, inr, length-append, cond, lit<}
+use Rattle.std.proofs.Common.{◌≡◌, ℕ, ◌+◌, ◌-◌, ◌^◌, ◌<◌, ◌≤◌, ◌++◌, List, [], ◌∷◌, length, refl, sym, ◌∙◌, ap, subst, append_assoc, append-nil, arith, Bool, true, false, ◌||◌, inl, inr, length-append, lit<}
 use Rattle.std.specs.Prelude.{◌⊎◌, Option, Some, None, IfSome, IsSomeAnd, Result, Ok, Err, ◌↔◌}
 use Rattle.std.specs.List.{list_any}
 use Rattle.std.specs.Str.Lines.{lines}
@@ -15,22 +15,22 @@ use Rattle.outer_io.specs.declared.line_reader.Got.TheVariants.{Line, End}
 use Rattle.outer_io.specs.declared.line_reader.ReadStop.{ReadStop}
 use Rattle.outer_io.specs.declared.line_reader.ReadStop.TheVariants.{TooLong}
 use Rattle.script_text.specs.Script.{script_line_of}
-use Rattle.window_incr.specs.LinkerState.{LinkerData}
+use Rattle.window_incr.specs.LinkerState.{LinkerState}
 use Rattle.mops_run.specs.Deliveries.{Delivers}
 use Rattle.mops_run.specs.State.{State, start}
-use Rattle.mops_run.specs.Replies.{Replies, Obeys}
+use Rattle.mops_run.specs.Replies.{Replies}
 use Rattle.track_report.specs.Refusals.{is_refusal}
 use Rattle.mops_run.specs.Output.{text_of_all}
 use Rattle.track_report.specs.Texts.{text_of}
-use Rattle.mops_run.specs.Output.{Adds, AddsFront, FailsIn}
+use Rattle.mops_run.specs.Output.{WritesText, WritesTextFront, FailsIn}
 use Rattle.mops_run.specs.Watch.{Answers, AnswersAll}
 use Rattle.mops_run.specs.Answering.{Answered, FailsToAnswer, Finished, FailsToFinish}
 use Rattle.mops_run.specs.Promise.{WritesAll, WritesFront, Takes}
 use Rattle.mops_run.specs.declared.top.Status.{Status}
 use Rattle.mops_run.specs.declared.top.Status.TheVariants.{InputTooLong}
-use Rattle.script_text.specs.declared.script.Line.{Line as ScriptLine}
-use Rattle.script_text.specs.declared.script.Line.TheVariants as lines
-use Rattle.script_text.specs.declared.errors.ScriptError.{ScriptError}
+use Rattle.mops_run.specs.declared.lines.Said.{Said}
+use Rattle.mops_run.specs.declared.lines.Said.TheVariants.{Nothing, Waits, Refused, Asks, Malformed}
+use Rattle.mops_run.specs.Lines.{said_by, said_of}
 use Rattle.track_report.specs.declared.replies.Reply.{Reply}
 use Rattle.mops_run.proofs.Cut.{script_line_of-take}
 use Rattle.mops_run.proofs.Agreement.{Answers-only, AnswersAll-only}
@@ -47,7 +47,7 @@ pub record SoFar (source_old : Supply) (reader : Reading) (source : Supply) (sin
   pub answers : Answers 1 start seen replies state
   pub counted : number ≡ length seen
   pub few : length state.waiting ≤ number
-  pub adds : Adds sink_old sink (text_of_all replies)
+  pub adds : WritesText sink_old sink (text_of_all replies)
   pub refused_is : refused ≡ list_any is_refusal replies
   pub tells : Tells source_old.left (ahead reader source) seen
   pub passed : number ≤ used reader
@@ -94,29 +94,25 @@ pub record NextLine (reader reader' : Reading) (source source' : Supply) : Type 
 -- one more line of an input that is told; where it isn't, what was handed out stands for it
 tells_more : (input bytes rest : Option (List ℕ)) (seen : List (List ℕ)) (line : List ℕ) (last : Bool) → Tells input bytes seen
     → IfSome bytes (λ xs. IsSomeAnd rest (λ ys. HandsOut xs line ys last))
-    → (content : List ℕ) × (script_line_of line ≡ script_line_of content) × Tells input rest (seen ++ content ∷ [])
+    → (content : List ℕ) × (said_by line ≡ said_by content) × Tells input rest (seen ++ content ∷ [])
 tells_more None bytes rest seen line last tells next = (line, refl, tt)
 tells_more (Some all) None rest seen line last tells next = absurd tells
 tells_more (Some all) (Some xs) None seen line last tells next = absurd next
 tells_more (Some all) (Some xs) (Some ys) seen line last tells next =
     let first : lines xs ≡ next.content ∷ lines ys = next.first in
-    (next.content, ap script_line_of next.cut ∙ script_line_of-take next.content, tells ∙ ap (λ ls. seen ++ ls) first ∙ sym (append_assoc seen (next.content ∷ []) (lines ys)))
+    (next.content, ap said_by next.cut ∙ ap said_of (script_line_of-take next.content), tells ∙ ap (λ ls. seen ++ ls) first ∙ sym (append_assoc seen (next.content ∷ []) (lines ys)))
 
 -- one more detection at most waits after a line
-waiting_more : (n : ℕ) (old new : State) (said : Result ScriptLine ScriptError) (given : List Reply) → Replies n old said given new → length new.waiting ≤ length old.waiting + 1
-waiting_more n old new (Ok lines.Blank) given a = omega (arith, ap (λ (s : State). length s.waiting) a.1)
-waiting_more n old new (Ok (lines.Bad error)) given a = omega (arith, ap (λ (s : State). length s.waiting) a.1)
-waiting_more n old new (Ok (lines.Detection d)) given a = omega (arith, ap (λ (s : State). length s.waiting) a.1, length-append old.waiting (d ∷ []))
-waiting_more n old new (Ok (lines.Set name value)) given a = omega (arith, ap length a.none_waits)
-waiting_more n old new (Ok (lines.Window lo hi)) given a = omega (arith, ap length a.none_waits)
-waiting_more n old new (Ok (lines.Tracklets night)) given a = omega (arith, ap length a.none_waits)
-waiting_more n old new (Ok lines.Report) given a = omega (arith, ap length a.none_waits)
-waiting_more n old new (Ok lines.Stats) given a = omega (arith, ap length a.none_waits)
-waiting_more n old new (Err error) given a = omega (arith, ap length a.none_waits)
+waiting_more : (n : ℕ) (old new : State) (said : Said) (given : List Reply) → Replies n old said given new → length new.waiting ≤ length old.waiting + 1
+waiting_more n old new Nothing given a = omega (arith, ap (λ (s : State). length s.waiting) a.1)
+waiting_more n old new (Waits d) given a = omega (arith, ap (λ (s : State). length s.waiting) a.1, length-append old.waiting (d ∷ []))
+waiting_more n old new (Refused error) given a = omega (arith, ap (λ (s : State). length s.waiting) a.1)
+waiting_more n old new (Asks command) given a = omega (arith, ap length a.none_waits)
+waiting_more n old new (Malformed error) given a = omega (arith, ap length a.none_waits)
 
 -- two texts, one behind the other
-pub Adds-then : (old mid new : Receipt) (text more : List ℕ) → Adds old mid text → Adds mid new more → Adds old new (text ++ more)
-Adds-then old mid new text more a b = record {
+pub WritesText-then : (old mid new : Receipt) (text more : List ℕ) → WritesText old mid text → WritesText mid new more → WritesText old new (text ++ more)
+WritesText-then old mid new text more a b = record {
   bytes = Appends-trans old.written mid.written new.written text more a.bytes b.bytes;
   whole = elim b.whole [ inl same ↦ subst (λ (r : Receipt). (r ≡ old) ⊎ IsFlushed r) (sym same) a.whole | inr flushed ↦ inr flushed ];
   faults = b.faults ∙ a.faults;
@@ -132,10 +128,10 @@ or_true false = refl
 
 -- the answers so far, and those to one more line
 one_more : (seen : List (List ℕ)) (content line : List ℕ) (number : ℕ) (state state' : State) (so_far given : List Reply) → Answers 1 start seen so_far state → number ≡ length seen
-    → script_line_of line ≡ script_line_of content → Replies (number + 1) state (script_line_of line) given state' → Answers 1 start (seen ++ content ∷ []) (so_far ++ given) state'
+    → said_by line ≡ said_by content → Replies (number + 1) state (said_by line) given state' → Answers 1 start (seen ++ content ∷ []) (so_far ++ given) state'
 one_more seen content line number state state' so_far given answers counted same replies =
-    let numbered : Replies (1 + length seen) state (script_line_of line) given state' = subst (λ k. Replies k state (script_line_of line) given state') (omega (arith, counted)) replies in
-    let now : Replies (1 + length seen) state (script_line_of content) given state' = subst (λ said. Replies (1 + length seen) state said given state') same numbered in
+    let numbered : Replies (1 + length seen) state (said_by line) given state' = subst (λ k. Replies k state (said_by line) given state') (omega (arith, counted)) replies in
+    let now : Replies (1 + length seen) state (said_by content) given state' = subst (λ said. Replies (1 + length seen) state said given state') same numbered in
     Answers-append 1 start state state' seen (content ∷ []) so_far given answers (given, [], state', now, (refl, refl), sym (append-nil given))
 
 -- what was answered so far, and one more line
@@ -147,7 +143,7 @@ pub SoFar-line : (source_old : Supply) (reader reader' : Reading) (source source
 SoFar-line source_old reader reader' source source' sink_old sink sink' number state state' refused bad refused' so next answered refused_is =
     let more = tells_more source_old.left (ahead reader source) (ahead reader' source') so.seen reader'.line reader'.ended so.tells next.line in
     let texts : text_of_all (so.replies ++ answered.given) ≡ text_of_all so.replies ++ text_of_all answered.given = flat_map-append text_of so.replies answered.given in
-    let waiting : length state'.waiting ≤ length state.waiting + 1 = waiting_more (number + 1) state state' (script_line_of reader'.line) answered.given answered.replies in
+    let waiting : length state'.waiting ≤ length state.waiting + 1 = waiting_more (number + 1) state state' (said_by reader'.line) answered.given answered.replies in
     let bad_is : bad ≡ list_any is_refusal answered.given = answered.says.refused_is in
     record {
       seen = so.seen ++ more.0 ∷ [];
@@ -155,7 +151,7 @@ SoFar-line source_old reader reader' source source' sink_old sink sink' number s
       answers = one_more so.seen more.0 reader'.line number state state' so.replies answered.given so.answers so.counted more.1 answered.replies;
       counted = omega (arith, length-append so.seen (more.0 ∷ []), so.counted);
       few = omega (arith, waiting, so.few);
-      adds = rw texts (Adds-then sink_old sink sink' (text_of_all so.replies) (text_of_all answered.given) so.adds answered.says.adds);
+      adds = rw texts (WritesText-then sink_old sink sink' (text_of_all so.replies) (text_of_all answered.given) so.adds answered.says.adds);
       refused_is = refused_is ∙ ap (λ b. b || bad) so.refused_is ∙ ap (λ b. list_any is_refusal so.replies || b) bad_is ∙ sym (list_any-append is_refusal so.replies answered.given);
       tells = more.2;
       passed = omega (arith, so.passed, next.progress);
@@ -198,8 +194,8 @@ texts_around before middle behind all front back parts cut =
     ∙ simp append_assoc
 
 -- a front of the texts of some more replies was added behind what was written so far
-front_of : (so_far given later all : List Reply) (old mid new : Receipt) → Adds old mid (text_of_all so_far) → FailsIn mid new (text_of_all given) → all ≡ (so_far ++ given) ++ later
-    → AddsFront old new (text_of_all all)
+front_of : (so_far given later all : List Reply) (old mid new : Receipt) → WritesText old mid (text_of_all so_far) → FailsIn mid new (text_of_all given) → all ≡ (so_far ++ given) ++ later
+    → WritesTextFront old new (text_of_all all)
 front_of so_far given later all old mid new adds fails parts =
     let part = fails.bytes in (
       text_of_all so_far ++ part.0,
@@ -215,7 +211,7 @@ pub WritesFront-failed : (source_old : Supply) (reader reader' : Reading) (sourc
 WritesFront-failed source_old reader reader' source source' sink_old sink sink' number state refused so next failed =
     front source_old.left (ahead reader' source') more.2
   where
-    more : (content : List ℕ) × (script_line_of reader'.line ≡ script_line_of content) × Tells source_old.left (ahead reader' source') (so.seen ++ content ∷ [])
+    more : (content : List ℕ) × (said_by reader'.line ≡ said_by content) × Tells source_old.left (ahead reader' source') (so.seen ++ content ∷ [])
     more = tells_more source_old.left (ahead reader source) (ahead reader' source') so.seen reader'.line reader'.ended so.tells next.line
 
     upto : Answers 1 start (so.seen ++ more.0 ∷ []) (so.replies ++ failed.given) failed.after
@@ -229,7 +225,7 @@ WritesFront-failed source_old reader reader' source source' sink_old sink sink' 
         front_of so.replies failed.given later.0 given sink_old sink sink' so.adds failed.fails later.1
 
 -- the replies to a whole input whose lines were all seen: those so far, and those of what still waits
-answers_all : (all rest : List ℕ) (seen : List (List ℕ)) (so_far last : List Reply) (state : State) (linker : LinkerData) → lines all ≡ seen ++ lines rest → rest ≡ []
+answers_all : (all rest : List ℕ) (seen : List (List ℕ)) (so_far last : List Reply) (state : State) (linker : LinkerState) → lines all ≡ seen ++ lines rest → rest ≡ []
     → Answers 1 start seen so_far state → Delivers state.linker state.waiting last linker → AnswersAll (lines all) (so_far ++ last)
 answers_all all rest seen so_far last state linker tells none answers delivery =
     let whole : lines all ≡ seen = tells ∙ ap (λ xs. seen ++ lines xs) none ∙ append-nil seen in
@@ -271,7 +267,7 @@ WritesAll-end source_old reader source sink_old sink sink' number state refused 
         let bad_is : bad ≡ list_any is_refusal finished.given = finished.says.refused_is in (
           so.replies ++ finished.given,
           answers_all all rest so.seen so.replies finished.given state finished.linker tells none so.answers finished.delivery,
-          rw texts (Adds-then sink_old sink sink' (text_of_all so.replies) (text_of_all finished.given) so.adds finished.says.adds),
+          rw texts (WritesText-then sink_old sink sink' (text_of_all so.replies) (text_of_all finished.given) so.adds finished.says.adds),
           ap (λ b. b || bad) so.refused_is ∙ ap (λ b. list_any is_refusal so.replies || b) bad_is ∙ sym (list_any-append is_refusal so.replies finished.given),
         )
 

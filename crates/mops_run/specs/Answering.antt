@@ -1,45 +1,44 @@
 -- How lines are answered on the sink.
 use Rattle.std.specs.Prelude.{◌≡◌, ℕ, Bool, List}
 use Rattle.std.specs.List.{list_any}
-use Rattle.miti_text.specs.Observation.{Observation}
 use Rattle.outer_io.specs.Receipt.{Receipt}
-use Rattle.script_text.specs.Script.{script_line_of}
+use Rattle.mops_run.specs.Lines.{said_by}
 use Rattle.track_report.specs.Refusals.{is_refusal}
 use Rattle.track_report.specs.declared.replies.Reply.{Reply}
-use Rattle.window_incr.specs.LinkerState.{LinkerData}
+use Rattle.window_incr.specs.LinkerState.{LinkerState}
 use Rattle.mops_run.specs.State.{State}
 use Rattle.mops_run.specs.Deliveries.{Delivers}
 use Rattle.mops_run.specs.Replies.{Replies}
-use Rattle.mops_run.specs.Output.{text_of_all, Adds, FailsIn}
+use Rattle.mops_run.specs.Output.{text_of_all, WritesText, FailsIn}
 
 -- the texts of some replies were added, and one of them is a refusal or none is
 pub record Says (given : List Reply) (old new : Receipt) (refused : Bool) : Type 0 where
-  pub adds : Adds old new (text_of_all given)
+  pub adds : WritesText old new (text_of_all given)
   pub refused_is : refused ≡ list_any is_refusal given
 
 -- the replies to the line of a number were said
 pub record Answered (number : ℕ) (state : State) (line : List ℕ) (old new : Receipt) (refused : Bool) (after : State) : Type 0 where
   pub given : List Reply
-  pub replies : Replies number state (script_line_of line) given after
+  pub replies : Replies number state (said_by line) given after
   pub says : Says given old new refused
 
 -- a front of the texts of the replies to the line of a number was added, and then a call failed
 pub record FailsToAnswer (number : ℕ) (state : State) (line : List ℕ) (old new : Receipt) : Type 0 where
   pub given : List Reply
   pub after : State
-  pub replies : Replies number state (script_line_of line) given after
+  pub replies : Replies number state (said_by line) given after
   pub fails : FailsIn old new (text_of_all given)
 
 -- the replies of what still waits at the end of the input were said
 pub record Finished (state : State) (old new : Receipt) (refused : Bool) : Type 0 where
   pub given : List Reply
-  pub linker : LinkerData
+  pub linker : LinkerState
   pub delivery : Delivers state.linker state.waiting given linker
   pub says : Says given old new refused
 
 -- a front of the texts of these was added, and then a call failed
 pub record FailsToFinish (state : State) (old new : Receipt) : Type 0 where
   pub given : List Reply
-  pub linker : LinkerData
+  pub linker : LinkerState
   pub delivery : Delivers state.linker state.waiting given linker
   pub fails : FailsIn old new (text_of_all given)

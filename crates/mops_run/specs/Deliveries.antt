@@ -3,10 +3,10 @@ use Rattle.std.specs.Prelude.{◌≡◌, ℕ, List, [], ◌∷◌, length, slice
 use Rattle.std.specs.Option.{option_map_or}
 use Rattle.miti_text.specs.Observation.{Observation}
 use Rattle.exposure_log.specs.Deliveries.{AreExposuresOf}
-use Rattle.exposure_log.specs.Held.{ExposureData, Adds, refusal}
+use Rattle.exposure_log.specs.Held.{ExposureData, TakesIn, refusal}
 use Rattle.exposure_log.specs.declared.errors.AddError.{AddError}
 use Rattle.exposure_log.specs.declared.errors.AddError.TheVariants.{Id}
-use Rattle.window_incr.specs.LinkerState.{LinkerData}
+use Rattle.window_incr.specs.LinkerState.{LinkerState}
 use Rattle.track_report.specs.declared.replies.Reply.{Reply}
 use Rattle.track_report.specs.declared.replies.Reply.TheVariants as replies
 
@@ -16,26 +16,26 @@ named_id (Id place) x = option_map_or (λ d. d.id) (slice_get x.detections place
 named_id error x = []
 
 -- the exposure is held from now on
-pub record IsTaken (old : LinkerData) (x : ExposureData) (reply : Reply) (new : LinkerData) : Type 0 where
+pub record IsAccepted (old : LinkerState) (x : ExposureData) (reply : Reply) (new : LinkerState) : Type 0 where
   pub settings : new.settings ≡ old.settings
-  pub log : Adds old.log new.log x
+  pub log : TakesIn old.log new.log x
   pub reply_is : reply ≡ replies.Added x.epoch x.site (length x.detections)
 
 -- the exposure is turned away, and nothing changes
-pub record IsTurnedAway (old : LinkerData) (x : ExposureData) (error : AddError) (reply : Reply) (new : LinkerData) : Type 0 where
+pub record IsRefused (old : LinkerState) (x : ExposureData) (error : AddError) (reply : Reply) (new : LinkerState) : Type 0 where
   pub same : new ≡ old
   pub reply_is : reply ≡ replies.Refused x.epoch x.site error (named_id error x)
 
 -- an exposure is taken where nothing refuses it, and is turned away by the first cause where something does
-abbrev pub AddsOne : LinkerData → ExposureData → Reply → LinkerData → Type 0
-AddsOne old x reply new = MatchOption (refusal old.log x) (IsTaken old x reply new) (λ error. IsTurnedAway old x error reply new)
+abbrev pub DeliversOne : LinkerState → ExposureData → Reply → LinkerState → Type 0
+DeliversOne old x reply new = MatchOption (refusal old.log x) (IsAccepted old x reply new) (λ error. IsRefused old x error reply new)
 
 -- exposures are added one after another
-abbrev pub AddsAll : LinkerData → List ExposureData → List Reply → LinkerData → Type 0
-AddsAll old [] given new = (given ≡ []) × (new ≡ old)
-AddsAll old (x ∷ xs) given new =
-    (reply : Reply) × (later : List Reply) × (between : LinkerData) × AddsOne old x reply between × AddsAll between xs later new × (given ≡ reply ∷ later)
+abbrev pub DeliversAll : LinkerState → List ExposureData → List Reply → LinkerState → Type 0
+DeliversAll old [] given new = (given ≡ []) × (new ≡ old)
+DeliversAll old (x ∷ xs) given new =
+    (reply : Reply) × (later : List Reply) × (between : LinkerState) × DeliversOne old x reply between × DeliversAll between xs later new × (given ≡ reply ∷ later)
 
 -- the exposures of the detections are added in their order
-abbrev pub Delivers : LinkerData → List Observation → List Reply → LinkerData → Type 0
-Delivers old waiting given new = (exposures : List ExposureData) × AreExposuresOf waiting exposures × AddsAll old exposures given new
+abbrev pub Delivers : LinkerState → List Observation → List Reply → LinkerState → Type 0
+Delivers old waiting given new = (exposures : List ExposureData) × AreExposuresOf waiting exposures × DeliversAll old exposures given new

@@ -1,8 +1,10 @@
 pub mod State
 pub mod Deliveries
 pub mod Commands
+pub mod Lines
 pub mod Replies
 pub mod Answering
 pub mod Watch
 pub mod Promise
 pub mod Output
+pub mod Complaints

@@ -12,16 +12,16 @@ abbrev pub text_of_all : List Reply → List ℕ
 text_of_all replies = flat_map text_of replies
 
 -- a text was added, without a fault; a sink that isn't as it was is flushed
-pub record Adds (old new : Receipt) (text : List ℕ) : Type 0 where
+pub record WritesText (old new : Receipt) (text : List ℕ) : Type 0 where
   pub bytes : Appends old.written new.written text
   pub whole : (new ≡ old) ⊎ IsFlushed new
   pub faults : new.faults ≡ old.faults
 
 -- a front of a text was added
-abbrev pub AddsFront : Receipt → Receipt → List ℕ → Type 0
-AddsFront old new text = (front : List ℕ) × (back : List ℕ) × (text ≡ front ++ back) × Appends old.written new.written front
+abbrev pub WritesTextFront : Receipt → Receipt → List ℕ → Type 0
+WritesTextFront old new text = (front : List ℕ) × (back : List ℕ) × (text ≡ front ++ back) × Appends old.written new.written front
 
 -- a front of a text was added, and then a call failed
 pub record FailsIn (old new : Receipt) (text : List ℕ) : Type 0 where
-  pub bytes : AddsFront old new text
+  pub bytes : WritesTextFront old new text
   pub faults : Rises old.faults new.faults

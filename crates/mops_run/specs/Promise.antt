@@ -7,7 +7,7 @@ use Rattle.outer_io.specs.Supply.{Supply, Rises, risen}
 use Rattle.outer_io.specs.Receipt.{Receipt, IsFlushed}
 use Rattle.track_report.specs.Refusals.{is_refusal}
 use Rattle.mops_run.specs.Output.{text_of_all}
-use Rattle.mops_run.specs.Output.{Adds, AddsFront}
+use Rattle.mops_run.specs.Output.{WritesText, WritesTextFront}
 use Rattle.mops_run.specs.Watch.{AnswersAll}
 use Rattle.track_report.specs.declared.replies.Reply.{Reply}
 use Rattle.mops_run.specs.declared.top.Status.{Status}
@@ -35,11 +35,11 @@ done_status false = Done
 -- the texts of the replies to all lines of the input were added, and one of these is a refusal or none is
 abbrev pub WritesAll : List ℕ → Receipt → Receipt → Bool → Type 0
 WritesAll input old new refused =
-    (replies : List Reply) × AnswersAll (lines input) replies × Adds old new (text_of_all replies) × (refused ≡ list_any is_refusal replies)
+    (replies : List Reply) × AnswersAll (lines input) replies × WritesText old new (text_of_all replies) × (refused ≡ list_any is_refusal replies)
 
 -- a front of the texts of the replies to all lines of the input was added
 abbrev pub WritesFront : List ℕ → Receipt → Receipt → Type 0
-WritesFront input old new = (replies : List Reply) → AnswersAll (lines input) replies → AddsFront old new (text_of_all replies)
+WritesFront input old new = (replies : List Reply) → AnswersAll (lines input) replies → WritesTextFront old new (text_of_all replies)
 
 -- the end of the input was marked, and nothing is left
 abbrev pub IsSpent : Supply → Type 0
@@ -65,7 +65,7 @@ SinkFaults ReadFault old new = new ≡ old
 SinkFaults NoMemory old new = new ≡ old
 SinkFaults InputTooLong old new = new ≡ old
 
--- so many bytes were taken from the source, and the run ended by them exactly where they are 2^32
+-- so many bytes were taken from the source, and the run found the input too long exactly where they are 2^32
 abbrev pub Takes : Status → Supply → Supply → Type 0
 Takes status old new =
     (count : ℕ) × (new.taken ≡ risen old.taken count) × (count ≤ 2 ^ 32) × ((status ≡ InputTooLong) ↔ (count ≡ 2 ^ 32))

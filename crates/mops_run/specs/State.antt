@@ -2,14 +2,14 @@
 use Rattle.std.specs.Prelude.{None, List, []}
 use Rattle.miti_text.specs.Observation.{Observation}
 use Rattle.sky_units.specs.SettingsData.{standard_settings}
-use Rattle.window_incr.specs.LinkerState.{LinkerData}
+use Rattle.window_incr.specs.LinkerState.{LinkerState}
 
 pub record State : Type 0 where
-  pub linker : LinkerData
+  pub linker : LinkerState
   pub waiting : List Observation
 
 -- the state of these
-abbrev pub state_of : LinkerData → List Observation → State
+abbrev pub state_of : LinkerState → List Observation → State
 state_of linker waiting = record { linker = linker; waiting = waiting }
 
 -- at first: the standard settings, no window, nothing held and nothing waiting

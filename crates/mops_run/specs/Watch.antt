@@ -1,7 +1,7 @@
 -- What the program answers to the lines of its input.
 use Rattle.std.specs.Prelude.{◌≡◌, ℕ, ◌+◌, ◌++◌, List, [], ◌∷◌}
-use Rattle.script_text.specs.Script.{script_line_of}
-use Rattle.window_incr.specs.LinkerState.{LinkerData}
+use Rattle.mops_run.specs.Lines.{said_by}
+use Rattle.window_incr.specs.LinkerState.{LinkerState}
 use Rattle.mops_run.specs.State.{State, start}
 use Rattle.mops_run.specs.Deliveries.{Delivers}
 use Rattle.mops_run.specs.Replies.{Replies}
@@ -12,7 +12,7 @@ abbrev pub Answers : ℕ → State → List (List ℕ) → List Reply → State 
 Answers number old [] given new = (given ≡ []) × (new ≡ old)
 Answers number old (line ∷ lines) given new =
     (now : List Reply) × (later : List Reply) × (between : State)
-    × Replies number old (script_line_of line) now between
+    × Replies number old (said_by line) now between
     × Answers (number + 1) between lines later new
     × (given ≡ now ++ later)
 
@@ -21,7 +21,7 @@ pub record AnswersAll (lines : List (List ℕ)) (given : List Reply) : Type 0 wh
   pub so_far : List Reply
   pub state : State
   pub last : List Reply
-  pub linker : LinkerData
+  pub linker : LinkerState
   pub answers : Answers 1 start lines so_far state
   pub delivery : Delivers state.linker state.waiting last linker
   pub given_is : given ≡ so_far ++ last

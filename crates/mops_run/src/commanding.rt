@@ -1,45 +1,32 @@
 //! The linker's answers to commands.
-ghost use Rattle.std.specs.Prelude.{◌≡◌, ℕ, true, IfOk, Ok};
-ghost use Rattle.mops_run.specs.Commands.{Commands, HasSmallWindow, IsSmall, is_command as is_command_line};
+ghost use Rattle.std.specs.Prelude.{◌≡◌, IfOk};
+ghost use Rattle.mops_run.specs.Commands.{Obeys};
+ghost use Rattle.mops_run.specs.Lines.{IsNearCommand};
+ghost use Rattle.sky_units.specs.Limits.{IsNear};
 
-use script_text::{Line, ScriptError};
+use crate::lines::Command;
 use sky_units::{NoMemory, Tally, Word};
 use track_report::Reply;
 use window_incr::Linker;
 
-/// Whether a line is a command, well formed or not.
-pub fn is_command(said: &Result<Line, ScriptError>) -> bool
-    ensures { result ≡ is_command_line said.now }
-{
-    !matches!(said, Ok(Line::Blank | Line::Bad(_) | Line::Detection(_)))
-}
-
-/// Does what the command of a line's number asks for, and gives its reply.
-pub fn command(
-    linker: &mut Linker,
-    number: u64,
-    said: Result<Line, ScriptError>,
-    tally: &mut Tally,
-) -> Result<Reply, NoMemory>
-    requires command { is_command_line said ≡ true }
-    requires numbers { HasSmallWindow said }
-    ensures reply { IfOk result (λ reply. Commands number linker.old said reply linker.new) }
+/// Does what a command asks for, and gives its reply.
+pub fn obey(linker: &mut Linker, command: Command, tally: &mut Tally) -> Result<Reply, NoMemory>
+    requires { IsNearCommand command }
+    ensures reply { IfOk result (λ reply. Obeys command linker.old.state reply linker.new.state) }
     ensures tally { tally.new ≡ tally.old }
 {
-    match said {
-        Ok(Line::Set(name, value)) => Ok(set(linker, name, value)),
-        Ok(Line::Window(lo, hi)) => Ok(set_window(linker, lo, hi, tally)),
-        Ok(Line::Tracklets(night)) => Ok(Reply::Tracklets(night, linker.tracklets(night)?)),
-        Ok(Line::Report) => Ok(Reply::Report(linker.report(tally)?)),
-        Ok(Line::Stats) => Ok(Reply::Stats(linker.stats()?)),
-        Err(error) => Ok(Reply::Script(number, error)),
-        Ok(Line::Blank | Line::Bad(_) | Line::Detection(_)) => unreachable!(),
+    match command {
+        Command::Set(name, value) => Ok(set(linker, name, value)),
+        Command::Window(lo, hi) => Ok(set_window(linker, lo, hi, tally)),
+        Command::Tracklets(night) => Ok(Reply::Tracklets(night, linker.tracklets(night)?)),
+        Command::Report => Ok(Reply::Report(linker.report(tally)?)),
+        Command::Stats => Ok(Reply::Stats(linker.stats()?)),
     }
 }
 
 /// Changes a setting, and gives the reply.
 fn set(linker: &mut Linker, name: Word, value: i64) -> Reply
-    ensures { (number : ℕ) → Commands number linker.old (Ok (Line.Set name value)) result linker.new }
+    ensures { Obeys (Command.Set name value) linker.old.state result linker.new.state }
 {
     match linker.set(name.bytes(), value) {
         Ok(()) => Reply::Set(name, value),
@@ -49,9 +36,8 @@ fn set(linker: &mut Linker, name: Word, value: i64) -> Reply
 
 /// Moves the window, and gives the reply.
 fn set_window(linker: &mut Linker, lo: i64, hi: i64, tally: &mut Tally) -> Reply
-    requires lo { IsSmall lo }
-    requires hi { IsSmall hi }
-    ensures reply { (number : ℕ) → Commands number linker.old (Ok (Line.Window lo hi)) result linker.new }
+    requires { IsNear (lo, hi) }
+    ensures reply { Obeys (Command.Window lo hi) linker.old.state result linker.new.state }
     ensures tally { tally.new ≡ tally.old }
 {
     match linker.set_window(lo, hi, tally) {

@@ -1,11 +1,9 @@
 //! Delivering the detections that wait: they are gathered into exposures, which are added in order.
 ghost use Rattle.std.specs.Prelude.{◌≡◌, ◌<◌, ◌^◌, [], IfOk, length, slice_get};
-ghost use Rattle.std.specs.List.{All};
 ghost use Rattle.std.specs.Option.{option_map_or};
-ghost use Rattle.exposure_log.specs.Exposures.{IsExposure};
-ghost use Rattle.mops_run.specs.Deliveries.{AddsAll, AddsOne, Delivers, named_id as named_id_of};
+ghost use Rattle.mops_run.specs.Deliveries.{DeliversAll, DeliversOne, Delivers, named_id as named_id_of};
 
-use exposure_log::{AddError, Exposure, gather};
+use exposure_log::{AddError, Exposure, NotHeld, gather};
 use miti_text::Detection;
 use sky_units::{NoMemory, Tally, Word};
 use std::alloc::{AllocError, Global};
@@ -21,22 +19,21 @@ pub fn deliver(
     tally: &mut Tally,
 ) -> Result<Vec<Reply>, NoMemory>
     requires { length waiting.items < 2 ^ 32 }
-    ensures replies { IfOk result (λ replies. Delivers linker.old waiting.items replies.items linker.new) }
+    ensures replies { IfOk result (λ replies. Delivers linker.old.state waiting.items replies.items linker.new.state) }
     ensures tally { tally.new ≡ tally.old }
 {
     let exposures = gather(alloc, waiting)?;
-    add_all(alloc, linker, exposures.as_slice(), tally)
+    add_all(alloc, linker, exposures, tally)
 }
 
 /// Adds exposures one after another, and gives the reply of each.
 fn add_all(
     alloc: Global,
     linker: &mut Linker,
-    exposures: &[Exposure],
+    exposures: Vec<Exposure>,
     tally: &mut Tally,
 ) -> Result<Vec<Reply>, NoMemory>
-    ensures replies { IfOk result (λ replies. AddsAll linker.old exposures.now replies.items linker.new) }
-    ensures keep { IfOk result (λ _. All IsExposure exposures.now) }
+    ensures replies { IfOk result (λ replies. DeliversAll linker.old.state exposures.items replies.items linker.new.state) }
     ensures tally { tally.new ≡ tally.old }
 {
     let mut replies = Vec::with_capacity(alloc, exposures.len())?;
@@ -50,22 +47,21 @@ fn add_all(
 fn add(
     alloc: Global,
     linker: &mut Linker,
-    exposure: &Exposure,
+    exposure: Exposure,
     tally: &mut Tally,
 ) -> Result<Reply, NoMemory>
-    ensures reply { IfOk result (λ reply. AddsOne linker.old exposure.now reply linker.new) }
-    ensures keeps { IsExposure exposure.now }
+    ensures reply { IfOk result (λ reply. DeliversOne linker.old.state exposure reply linker.new.state) }
     ensures tally { tally.new ≡ tally.old }
 {
     let epoch = exposure.epoch();
     let site = Word::new(alloc, exposure.site())?;
-    match linker.add(exposure, tally) {
+    match linker.hold(exposure, tally) {
         Ok(count) => Ok(Reply::Added(epoch, site, count)),
-        Err(AddError::NoMemory) => Err(AllocError),
-        Err(error) => {
-            let id = named_id(alloc, error, exposure)?;
+        Err(NotHeld::Refused(error, refused)) => {
+            let id = named_id(alloc, error, &refused)?;
             Ok(Reply::Refused(epoch, site, error, id))
         }
+        Err(NotHeld::NoMemory) => Err(AllocError),
     }
 }
 

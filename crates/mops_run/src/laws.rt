@@ -1,7 +1,7 @@
 //! Laws over the definitions alone, each the contract of a function that does nothing else.
 ghost use Rattle.mops_run.specs.Watch.{RepliesAreUnique, RepliesExist};
 
-use plain_tracks::some_report_list;
+use window_incr::{report_exists, stats_exist};
 
 /// The lines of an input have only one list of replies.
 pub fn replies_are_unique()
@@ -12,5 +12,6 @@ pub fn replies_are_unique()
 pub fn replies_exist()
     ensures { RepliesExist }
 {
-    some_report_list();
+    report_exists();
+    stats_exist();
 }

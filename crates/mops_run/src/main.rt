@@ -2,6 +2,7 @@
 //! input, and answers each line on standard output.
 #![tactic(auto)]
 
+use complaints::complaint;
 use outer_io::{StdSink, StdSource};
 use sky_units::{Tally, Word};
 use std::process::ExitCode;
@@ -10,9 +11,13 @@ use std::{env, io};
 use top::{Status, run};
 
 mod commanding;
+mod complaints;
 mod delivering;
 mod laws;
+mod lines;
 mod output;
+#[cfg(test)]
+mod refusal_tests;
 #[cfg(test)]
 mod tests;
 mod top;
@@ -28,18 +33,6 @@ fn program_words<R: Env + AllocGlobal>(rt: &R) -> io::Result<Vec<Word>> {
         words.push(Word::new(rt.alloc(), word.as_bytes())?)?;
     }
     Ok(words)
-}
-
-/// What standard error says of a run that ended so.
-fn complaint(status: Status) -> Option<&'static str> {
-    match status {
-        Status::Done | Status::DoneWithRefusals => None,
-        Status::Usage => Some("usage: mops_run watch"),
-        Status::ReadFault => Some("read fault"),
-        Status::WriteFault => Some("write fault"),
-        Status::NoMemory => Some("out of memory"),
-        Status::InputTooLong => Some("input too long"),
-    }
 }
 
 /// Says on standard error how a run ended, where that is worth a line, and gives the exit status.

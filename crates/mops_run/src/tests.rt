@@ -77,7 +77,7 @@ fn expect_in_pieces(
 }
 
 /// Watches a script in pieces of several sizes, and compares.
-fn expect_watch(
+pub(crate) fn expect_watch(
     rt: &(impl Abort + AllocGlobal),
     script: &[&str],
     status: Status,
@@ -89,11 +89,12 @@ fn expect_watch(
     Ok(())
 }
 
-/// The lines of two detections in each of three nights, at these six right ascensions.
+/// The lines of two detections in each of three nights, at these six positions: each a right
+/// ascension and a declination.
 fn six_lines_at(alloc: Global, positions: [&str; 6]) -> Result<String, Fail> {
     let [a1, a2, b1, b2, c1, c2] = positions;
     let mut text = String::new(alloc);
-    for (id, epoch, ra) in [
+    for (id, epoch, position) in [
         ("a1", "59000.250000", a1),
         ("a2", "59000.270000", a2),
         ("b1", "59001.250000", b1),
@@ -101,7 +102,7 @@ fn six_lines_at(alloc: Global, positions: [&str; 6]) -> Result<String, Fail> {
         ("c1", "59002.250000", c1),
         ("c2", "59002.270000", c2),
     ] {
-        let line = format!(in alloc; "{id} {epoch} {ra} 5.000000 20.0 568 obj1\n")?;
+        let line = format!(in alloc; "{id} {epoch} {position} 20.0 568 obj1\n")?;
         text.push_str(line.as_str())?;
     }
     Ok(text)
@@ -128,12 +129,12 @@ fn three_nights(rt: HostRuntime) -> Result<(), Fail> {
 #[test]
 fn across_ra_zero(rt: HostRuntime) -> Result<(), Fail> {
     let positions = [
-        "359.990000",
-        "359.992000",
-        "0.090000",
-        "0.092000",
-        "0.190000",
-        "0.192000",
+        "359.990000 5",
+        "359.992000 5",
+        "0.090000 5",
+        "0.092000 5",
+        "0.190000 5",
+        "0.192000 5",
     ];
     let lines = six_lines_at(rt.alloc(), positions)?;
     expect_watch(
@@ -165,17 +166,68 @@ fn two_nights_are_no_track(rt: HostRuntime) -> Result<(), Fail> {
 #[test]
 fn straight_lines_at_the_tolerance(rt: HostRuntime) -> Result<(), Fail> {
     let reports = [
-        ("10.100600", "10.102600", ONE_TRACK),
-        ("10.100601", "10.102601", "report 59000 59015 0\n"),
+        ("10.100600 5", "10.102600 5", ONE_TRACK),
+        ("10.100601 5", "10.102601 5", "report 59000 59015 0\n"),
     ];
     for (b1, b2, report) in reports {
-        let positions = ["10.000000", "10.002000", b1, b2, "10.200000", "10.202000"];
+        let positions = ["10 5", "10.002 5", b1, b2, "10.2 5", "10.202 5"];
         let lines = six_lines_at(rt.alloc(), positions)?;
         expect_watch(
             &rt,
             &["!set acc_ra 0\n", WINDOW, lines.as_str(), "!report\n"],
             Status::Done,
             &["set acc_ra 0\n", WINDOW_SET, SIX_ACCEPTED, report],
+        )?;
+    }
+    Ok(())
+}
+
+#[test]
+fn declination_decides_a_track(rt: HostRuntime) -> Result<(), Fail> {
+    // Straight lines must pass within 300 of three points whose middle lies this far beside them.
+    let reports = [
+        ("10 5.100600", "10 5.102600", ONE_TRACK),
+        ("10 5.100601", "10 5.102601", "report 59000 59015 0\n"),
+    ];
+    for (b1, b2, report) in reports {
+        let positions = ["10 5", "10 5.002", b1, b2, "10 5.2", "10 5.202"];
+        let lines = six_lines_at(rt.alloc(), positions)?;
+        expect_watch(
+            &rt,
+            &["!set acc_dec 0\n", WINDOW, lines.as_str(), "!report\n"],
+            Status::Done,
+            &["set acc_dec 0\n", WINDOW_SET, SIX_ACCEPTED, report],
+        )?;
+    }
+    Ok(())
+}
+
+#[test]
+fn declination_decides_a_pair(rt: HostRuntime) -> Result<(), Fail> {
+    // At half a degree a day, a fiftieth of a day lets through a hundredth of a degree.
+    let replies = [
+        ("5.010000", "tracklets 59000 1\ntracklet a b\n"),
+        ("5.010001", "tracklets 59000 0\n"),
+        ("4.990000", "tracklets 59000 1\ntracklet a b\n"),
+        ("4.989999", "tracklets 59000 0\n"),
+    ];
+    for (declination, tracklets) in replies {
+        let later = format!(in rt.alloc(); "b 59000.27 10 {declination} 20 568 o\n")?;
+        expect_watch(
+            &rt,
+            &[
+                WINDOW,
+                "a 59000.25 10 5 20 568 o\n",
+                later.as_str(),
+                "!tracklets 59000\n",
+            ],
+            Status::Done,
+            &[
+                WINDOW_SET,
+                "exposure 59000250000 568 accepted 1\n",
+                "exposure 59000270000 568 accepted 1\n",
+                tracklets,
+            ],
         )?;
     }
     Ok(())
@@ -357,130 +409,33 @@ p4 59000.28 10.003000 5 20 568 o\n";
 }
 
 #[test]
-fn refused_exposures(rt: HostRuntime) -> Result<(), Fail> {
+fn nights_begin_before_zero_hours(rt: HostRuntime) -> Result<(), Fail> {
     expect_watch(
         &rt,
         &[
-            "a 59001.25 10 5 20 568 o\n",
-            "!window 59001 59016\n",
-            "a 59001.25 10 5 20 568 o\n",
-            "b 59000.25 10 5 20 568 o\n",
-            "c 59017.25 10 5 20 568 o\n",
-            "!stats\n",
-            "d 59001.25 11 5 20 568 o\n",
-            "a 59001.27 10 5 20 568 o\n",
-            "e 59001.25 11 5 20 F51 o\n",
-            "!stats\n",
-        ],
-        Status::DoneWithRefusals,
-        &[
-            "exposure 59001250000 568 refused nowindow\n",
-            "window 59001 59016\n",
-            "exposure 59000250000 568 refused old\n",
-            "exposure 59001250000 568 accepted 1\n",
-            "exposure 59017250000 568 refused new\n",
-            "stats 1 1 0 0\n",
-            "exposure 59001250000 568 refused held\n",
-            "exposure 59001250000 F51 accepted 1\n",
-            "exposure 59001270000 568 refused id a\n",
-            "stats 2 2 0 0\n",
-        ],
-    )?;
-    // An id that stands twice in its exposure: the whole exposure is turned away.
-    expect_watch(
-        &rt,
-        &[
-            "!window 59001 59016\n",
-            "b 59001.25 10 5 20 568 o\n",
-            "a 59001.25 10 5 20 568 o\n",
-            "b 59001.25 11 5 20 568 o\n",
-            "!stats\n",
-        ],
-        Status::DoneWithRefusals,
-        &[
-            "window 59001 59016\n",
-            "exposure 59001250000 568 refused id b\n",
-            "stats 0 0 0 0\n",
-        ],
-    )
-}
-
-#[test]
-fn refused_lines(rt: HostRuntime) -> Result<(), Fail> {
-    let long = String::from_utf8(vec![in rt.alloc(); b'x'; 1025]?)?;
-    expect_watch(
-        &rt,
-        &[
-            long.as_str(),
-            "\na 59001.25 10 5 20\n",
-            "a 59001.25 360.0000001 5 20 568 o\n",
-            "a 59001.25 10 90.000001 20 568 o\n",
+            "!set night_shift 250000\n",
             "!window 59001 59001\n",
-            "a 59001.25 359.9999999 5 20 568 o\n",
-            "b 59001.27 0.002 5 20 568 o\n",
+            "a 59000.749999 10 5 20 568 o\n",
+            "b 59000.80 10 5 20 568 o\n",
+            "c 59000.82 10.002 5 20 568 o\n",
+            "d 59000.99 10.019 5 20 568 o\n",
+            "e 59001.02 10.022 5 20 568 o\n",
+            "f 59001.75 10.095 5 20 568 o\n",
             "!tracklets 59001\n",
+            "!tracklets 59000\n",
         ],
         Status::DoneWithRefusals,
         &[
-            "line 1 refused long\n",
-            "line 2 refused fields\n",
-            "line 3 refused ra\n",
-            "line 4 refused dec\n",
+            "set night_shift 250000\n",
             "window 59001 59001\n",
-            "exposure 59001250000 568 accepted 1\n",
-            "exposure 59001270000 568 accepted 1\n",
-            "tracklets 59001 1\n",
-            "tracklet a b\n",
-        ],
-    )
-}
-
-#[test]
-fn refused_settings_and_windows(rt: HostRuntime) -> Result<(), Fail> {
-    expect_watch(
-        &rt,
-        &[
-            "!set tolerance 5\n",
-            "!set tol_ra 100001\n",
-            "!set tol_ra 0\n",
-            "!window 59010 59009\n",
-            "!window 59000 59016\n",
-            "!window 59001 59016\n",
-            "!window 59000 59015\n",
-            "!set tol_ra 5\n",
-            "!set tol_ra 100001\n",
-        ],
-        Status::DoneWithRefusals,
-        &[
-            "set refused name\n",
-            "set refused range\n",
-            "set tol_ra 0\n",
-            "window refused order\n",
-            "window refused wide\n",
-            "window 59001 59016\n",
-            "window refused back\n",
-            "set refused late\n",
-            "set refused range\n",
-        ],
-    )
-}
-
-#[test]
-fn malformed_commands(rt: HostRuntime) -> Result<(), Fail> {
-    expect_watch(
-        &rt,
-        &[
-            "!foo\n",
-            "!report now\n",
-            "!window a 5\n",
-            "!set tol_ra 1.5\n",
-        ],
-        Status::DoneWithRefusals,
-        &[
-            "line 1 refused command\n",
-            "line 2 refused words\n",
-            "line 3 refused number\n",
-            "line 4 refused number\n",
+            "exposure 59000749999 568 refused old\n",
+            "exposure 59000800000 568 accepted 1\n",
+            "exposure 59000820000 568 accepted 1\n",
+            "exposure 59000990000 568 accepted 1\n",
+            "exposure 59001020000 568 accepted 1\n",
+            "exposure 59001750000 568 refused new\n",
+            "tracklets 59001 2\ntracklet b c\ntracklet d e\n",
+            "tracklets 59000 0\n",
         ],
     )
 }
@@ -737,7 +692,7 @@ fn usage(rt: HostRuntime) -> Result<(), Fail> {
         &[],
         &["watch", "now"],
         &["watching"],
-        &["generate", "1", "17", "1"],
+        &["generate", "1", "31", "1"],
         &["summary", "1", "3"],
         &["--help"],
     ];

@@ -17,20 +17,17 @@ pub enum Status {
     DoneWithRefusals = 1,
     /// The words are none of the program's forms. Nothing was read or written.
     Usage = 2,
-    /// A read failed. Each whole line that was read is answered.
+    /// A read failed. A front of the replies was written.
     ReadFault = 3,
-    /// A write or a flush failed.
+    /// A write or a flush failed. A front of the replies was written.
     WriteFault = 4,
-    /// Memory was wanting.
+    /// Memory was wanting. A front of the replies was written.
     NoMemory = 5,
-    /// The input has 2^32 bytes or more. Each whole line before them is answered.
+    /// The input has 2^32 bytes or more. A front of the replies was written.
     InputTooLong = 6,
 }
 
 /// Runs the program on its words: the one word `watch` answers each line of the source on the sink.
-///
-/// After the first fault no further call is made on the source or the sink. Every reply to a whole
-/// line is written and flushed before the next read.
 pub fn run<I: Source, O: Sink>(
     alloc: Global,
     words: &[Word],

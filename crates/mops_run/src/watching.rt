@@ -1,27 +1,26 @@
 //! Answering the lines of the input, one after another.
-ghost use Rattle.std.specs.Prelude.{◌≡◌, ◌^◌, ◌<◌, ◌++◌, ◌∷◌, [], false, IfOk, length};
+ghost use Rattle.std.specs.Prelude.{◌≡◌, ◌^◌, ◌<◌, ◌++◌, ◌∷◌, [], IfOk, length};
 ghost use Rattle.std.specs.List.{list_any};
-ghost use Rattle.script_text.specs.Script.{script_line_of};
 ghost use Rattle.track_report.specs.Refusals.{is_refusal};
 ghost use Rattle.mops_run.specs.Answering.{Says, Answered, FailsToAnswer, Finished, FailsToFinish};
-ghost use Rattle.mops_run.specs.Commands.{HasSmallWindow, is_command as is_command_line};
+ghost use Rattle.mops_run.specs.Deliveries.{Delivers};
+ghost use Rattle.mops_run.specs.Lines.{IsNearLine};
 ghost use Rattle.mops_run.specs.Output.{text_of_all, FailsIn};
 ghost use Rattle.mops_run.specs.Promise.{Watches, done_status};
 ghost use Rattle.mops_run.specs.Replies.{Replies};
 ghost use Rattle.mops_run.specs.State.{state_of};
-ghost use Rattle.window_incr.specs.LinkerState.{LinkerData};
 
-use crate::commanding::{command, is_command};
+use crate::commanding::obey;
 use crate::delivering::deliver;
+use crate::lines::{Said, said_by};
 use crate::output::put;
 use crate::top::Status;
 use miti_text::Detection;
 use outer_io::{Failed, Got, LineReader, ReadStop, Sink, Source};
-use script_text::{Line, ScriptError, read_script_line};
 use sky_units::{NoMemory, Settings, Tally};
 use std::alloc::{AllocError, Global};
 use std::mem;
-use track_report::{Reply, write_reply};
+use track_report::{Reply, append_reply};
 use window_incr::Linker;
 
 /// Why answering stopped before the end of the input.
@@ -125,12 +124,12 @@ fn answer<O: Sink>(
     tally: &mut Tally,
 ) -> Result<bool, Stop>
     requires few { length waiting.old.items < 2 ^ 32 }
-    ensures ok { IfOk result (λ refused. Answered number (state_of linker.old waiting.old.items) text.now (O.receipt sink.old) (O.receipt sink.new) refused (state_of linker.new waiting.new.items)) }
+    ensures ok { IfOk result (λ refused. Answered number (state_of linker.old.state waiting.old.items) text.now (O.receipt sink.old) (O.receipt sink.new) refused (state_of linker.new.state waiting.new.items)) }
     ensures memory { result ≡ Err Stop.NoMemory → sink.new ≡ sink.old }
-    ensures fault { result ≡ Err Stop.WriteFault → FailsToAnswer number (state_of linker.old waiting.old.items) text.now (O.receipt sink.old) (O.receipt sink.new) }
+    ensures fault { result ≡ Err Stop.WriteFault → FailsToAnswer number (state_of linker.old.state waiting.old.items) text.now (O.receipt sink.old) (O.receipt sink.new) }
     ensures tally { tally.new ≡ tally.old }
 {
-    let said = read_line(alloc, text)?;
+    let said = said_by(alloc, text)?;
     let replies = reply(alloc, linker, waiting, number, said, tally)?;
     say(alloc, sink, replies.as_slice())
 }
@@ -144,62 +143,77 @@ fn finish<O: Sink>(
     tally: &mut Tally,
 ) -> Result<bool, Stop>
     requires few { length waiting.items < 2 ^ 32 }
-    ensures ok { IfOk result (λ refused. Finished (state_of linker.old waiting.items) (O.receipt sink.old) (O.receipt sink.new) refused) }
+    ensures ok { IfOk result (λ refused. Finished (state_of linker.old.state waiting.items) (O.receipt sink.old) (O.receipt sink.new) refused) }
     ensures memory { result ≡ Err Stop.NoMemory → sink.new ≡ sink.old }
-    ensures fault { result ≡ Err Stop.WriteFault → FailsToFinish (state_of linker.old waiting.items) (O.receipt sink.old) (O.receipt sink.new) }
+    ensures fault { result ≡ Err Stop.WriteFault → FailsToFinish (state_of linker.old.state waiting.items) (O.receipt sink.old) (O.receipt sink.new) }
     ensures tally { tally.new ≡ tally.old }
 {
     let replies = deliver(alloc, linker, waiting, tally)?;
     say(alloc, sink, replies.as_slice())
 }
 
-/// What a line says, or why it is a malformed command.
-fn read_line(alloc: Global, text: &[u8]) -> Result<Result<Line, ScriptError>, NoMemory>
-    ensures { IfOk result (λ said. said ≡ script_line_of text.now) }
+/// Writes the texts of some replies and flushes them, and says whether one is a refusal. Without a
+/// reply no call is made on the sink.
+fn say<O: Sink>(alloc: Global, sink: &mut O, replies: &[Reply]) -> Result<bool, Stop>
+    ensures ok { IfOk result (λ refused. Says replies.now (O.receipt sink.old) (O.receipt sink.new) refused) }
+    ensures memory { result ≡ Err Stop.NoMemory → sink.new ≡ sink.old }
+    ensures fault { result ≡ Err Stop.WriteFault → FailsIn (O.receipt sink.old) (O.receipt sink.new) (text_of_all replies.now) }
 {
-    match read_script_line(alloc, text) {
-        Err(ScriptError::NoMemory) => Err(AllocError),
-        said => Ok(said),
+    if replies.is_empty() {
+        return Ok(false);
     }
+    let text = write_replies(alloc, replies)?;
+    put(sink, text.as_slice())?;
+    Ok(has_refusal(replies))
 }
 
-/// The replies to a line of this number. A command first has what waits delivered.
+/// The texts of some replies, one after another.
+fn write_replies(alloc: Global, replies: &[Reply]) -> Result<Vec<u8>, NoMemory>
+    ensures { IfOk result (λ text. text.items ≡ text_of_all replies.now) }
+{
+    let mut text = Vec::new(alloc);
+    for reply in replies {
+        append_reply(&mut text, reply)?;
+    }
+    Ok(text)
+}
+
+/// Whether some reply is a refusal.
+fn has_refusal(replies: &[Reply]) -> bool
+    ensures { result ≡ list_any is_refusal replies.now }
+{
+    replies.iter().any(|reply| reply.is_refusal())
+}
+
+/// The replies to the line of a number. A command, well formed or not, first has what waits
+/// delivered.
 fn reply(
     alloc: Global,
     linker: &mut Linker,
     waiting: &mut Vec<Detection>,
     number: u64,
-    said: Result<Line, ScriptError>,
+    said: Said,
     tally: &mut Tally,
 ) -> Result<Vec<Reply>, NoMemory>
     requires few { length waiting.old.items < 2 ^ 32 }
-    requires numbers { HasSmallWindow said }
-    ensures replies { IfOk result (λ replies. Replies number (state_of linker.old waiting.old.items) said replies.items (state_of linker.new waiting.new.items)) }
+    requires near { IsNearLine said }
+    ensures replies { IfOk result (λ replies. Replies number (state_of linker.old.state waiting.old.items) said replies.items (state_of linker.new.state waiting.new.items)) }
     ensures tally { tally.new ≡ tally.old }
 {
-    if !is_command(&said) {
-        return note(alloc, waiting, number, said);
-    }
-    let delivered = mem::replace(waiting, Vec::new(alloc));
-    let mut replies = deliver(alloc, linker, delivered, tally)?;
-    replies.push(command(linker, number, said, tally)?)?;
-    Ok(replies)
-}
-
-/// The replies to a line that is no command. A detection waits for the next command.
-fn note(
-    alloc: Global,
-    waiting: &mut Vec<Detection>,
-    number: u64,
-    said: Result<Line, ScriptError>,
-) -> Result<Vec<Reply>, NoMemory>
-    requires { is_command_line said ≡ false }
-    ensures { IfOk result (λ replies. (linker : LinkerData) → Replies number (state_of linker waiting.old.items) said replies.items (state_of linker waiting.new.items)) }
-{
     match said {
-        Ok(Line::Detection(detection)) => wait(alloc, waiting, detection),
-        Ok(Line::Bad(error)) => one(alloc, Reply::Line(number, error)),
-        _ => Ok(Vec::new(alloc)),
+        Said::Nothing => Ok(Vec::new(alloc)),
+        Said::Waits(detection) => wait(alloc, waiting, detection),
+        Said::Refused(error) => one(alloc, Reply::Line(number, error)),
+        Said::Asks(command) => {
+            let mut replies = deliver_waiting(alloc, linker, waiting, tally)?;
+            replies.push(obey(linker, command, tally)?)?;
+            Ok(replies)
+        }
+        Said::Malformed(error) => {
+            let mut replies = deliver_waiting(alloc, linker, waiting, tally)?;
+            replies.push(Reply::Script(number, error))?;
+            Ok(replies)
+        }
     }
 }
 
@@ -224,35 +238,18 @@ fn one(alloc: Global, reply: Reply) -> Result<Vec<Reply>, NoMemory>
     Ok(replies)
 }
 
-/// Writes the texts of some replies and flushes them, and says whether one is a refusal. Without a
-/// reply no call is made on the sink.
-fn say<O: Sink>(alloc: Global, sink: &mut O, replies: &[Reply]) -> Result<bool, Stop>
-    ensures ok { IfOk result (λ refused. Says replies.now (O.receipt sink.old) (O.receipt sink.new) refused) }
-    ensures memory { result ≡ Err Stop.NoMemory → sink.new ≡ sink.old }
-    ensures fault { result ≡ Err Stop.WriteFault → FailsIn (O.receipt sink.old) (O.receipt sink.new) (text_of_all replies.now) }
+/// Delivers what waits, so that nothing waits any more.
+fn deliver_waiting(
+    alloc: Global,
+    linker: &mut Linker,
+    waiting: &mut Vec<Detection>,
+    tally: &mut Tally,
+) -> Result<Vec<Reply>, NoMemory>
+    requires few { length waiting.old.items < 2 ^ 32 }
+    ensures replies { IfOk result (λ replies. Delivers linker.old.state waiting.old.items replies.items linker.new.state) }
+    ensures none_waits { waiting.new.items ≡ [] }
+    ensures tally { tally.new ≡ tally.old }
 {
-    if replies.is_empty() {
-        return Ok(false);
-    }
-    let text = write_replies(alloc, replies)?;
-    put(sink, text.as_slice())?;
-    Ok(has_refusal(replies))
-}
-
-/// The texts of some replies, one after another.
-fn write_replies(alloc: Global, replies: &[Reply]) -> Result<Vec<u8>, NoMemory>
-    ensures { IfOk result (λ text. text.items ≡ text_of_all replies.now) }
-{
-    let mut text = Vec::new(alloc);
-    for reply in replies {
-        text.append(&mut write_reply(alloc, reply)?)?;
-    }
-    Ok(text)
-}
-
-/// Whether some reply is a refusal.
-fn has_refusal(replies: &[Reply]) -> bool
-    ensures { result ≡ list_any is_refusal replies.now }
-{
-    replies.iter().any(|reply| reply.is_refusal())
+    let delivered = mem::replace(waiting, Vec::new(alloc));
+    deliver(alloc, linker, delivered, tally)
 }

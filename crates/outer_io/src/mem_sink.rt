@@ -123,14 +123,6 @@ impl Sink for MemSink {
     }
 }
 
-/// Writes `piece` into `kept` from `at` on.
-fn keep(kept: &mut [u8], at: usize, piece: &[u8])
-    requires { at + length piece.now ≤ length kept.old }
-    ensures { take (at + length piece.now) kept.new ≡ take at kept.old ++ piece.now }
-{
-    kept[at..at + piece.len()].copy_from_slice(piece);
-}
-
 /// A sink that drops what is written and never fails. It doesn't tell its bytes.
 #[derive(Debug, Drop)]
 pub struct SureSink(());
@@ -160,4 +152,12 @@ impl Sink for SureSink {
     {
         Ok(())
     }
+}
+
+/// Writes `piece` into `kept` from `at` on.
+fn keep(kept: &mut [u8], at: usize, piece: &[u8])
+    requires { at + length piece.now ≤ length kept.old }
+    ensures { take (at + length piece.now) kept.new ≡ take at kept.old ++ piece.now }
+{
+    kept[at..at + piece.len()].copy_from_slice(piece);
 }

@@ -83,18 +83,6 @@ impl Source for MemSource {
     }
 }
 
-/// Copies the bytes from `at` on into the front of `buf`, at most `piece` of them, and returns how many.
-fn give(bytes: &[u8], at: usize, piece: usize, buf: &mut [u8]) -> usize
-    requires { at ≤ length bytes.now }
-    ensures count { result ≡ min (min piece (length buf.new)) (length bytes.now - at) }
-    ensures within { at + result ≤ length bytes.now }
-    ensures bytes { drop at bytes.now ≡ take result buf.new ++ drop (at + result) bytes.now }
-{
-    let count = piece.min(buf.len()).min(bytes.len() - at);
-    buf[..count].copy_from_slice(&bytes[at..at + count]);
-    count
-}
-
 /// A source over bytes in memory that never fails.
 #[derive(Debug, Drop)]
 pub struct SureSource {
@@ -182,4 +170,16 @@ impl Source for EndlessSource {
         self.taken = self.taken.saturating_add(buf.len() as u64);
         Ok(buf.len())
     }
+}
+
+/// Copies the bytes from `at` on into the front of `buf`, at most `piece` of them, and returns how many.
+fn give(bytes: &[u8], at: usize, piece: usize, buf: &mut [u8]) -> usize
+    requires { at ≤ length bytes.now }
+    ensures count { result ≡ min (min piece (length buf.new)) (length bytes.now - at) }
+    ensures within { at + result ≤ length bytes.now }
+    ensures bytes { drop at bytes.now ≡ take result buf.new ++ drop (at + result) bytes.now }
+{
+    let count = piece.min(buf.len()).min(bytes.len() - at);
+    buf[..count].copy_from_slice(&bytes[at..at + count]);
+    count
 }

@@ -1,3 +1,4 @@
+//! The line reader over sources that cut and fail, and what sources and sinks move.
 ghost use Rattle.std.specs.Prelude.{◌≡◌, None, false};
 
 use super::*;
@@ -162,6 +163,8 @@ fn sources_and_sinks_move_bytes(rt: HostRuntime) -> Result<(), Fail> {
     let mut over = StdSink::new(&mut kept);
     assert_eq!(rt; over.write(b"abc"), Ok(3));
     assert_eq!(rt; over.flush(), Ok(()));
+    drop(over);
+    assert_eq!(rt; kept.as_slice(), b"abc".as_slice());
     assert_eq!(rt; SureSink::new().write(b"abc"), Ok(3));
     Ok(())
 }

@@ -1,13 +1,13 @@
 -- The pairs of one earlier spot: a row of all pairs, and the places of it that hold none.
-use Rattle.std.proofs.Common.{◌≡◌, ℕ, ◌+◌, ◌-◌, ◌<◌, ◌≤◌, ℤ, ◌-ℤ◌, ◌≤ℤ◌, ◌<ℤ◌, Bool, true, false, cond, ◌&&◌, List, [], ◌∷◌, ◌++◌, map, length, get_or, refl, arith, Option, Some, None, zero, suc, inl, inr}
+use Rattle.std.proofs.Common.{◌≡◌, ℕ, ◌+◌, ◌-◌, ◌<◌, ◌≤◌, ℤ, ◌-ℤ◌, ◌≤ℤ◌, ◌<ℤ◌, Bool, true, false, cond, ◌&&◌, List, [], ◌∷◌, ◌++◌, map, length, get_or, take, refl, arith, Option, Some, None, zero, suc, inl, inr}
 use Rattle.std.specs.Int.Signed.{le_z, lt_z}
-use Rattle.std.specs.List.{filter, range_with_len, slice_get}
+use Rattle.std.specs.List.{All, filter, range_with_len, slice_get}
 use Rattle.std.proofs.lemmas.Int.{ints}
 use Rattle.std.proofs.lemmas.Bool.{cases_order, cases_lt}
 use Rattle.std.proofs.lemmas.Option.{slice_get-get_or, slice_get_past, slice_get_read, get_or_from_slice_get}
-use Rattle.std.proofs.lemmas.List.{append-nil}
+use Rattle.std.proofs.lemmas.List.{append-nil, get_or-take, length-take}
 use Rattle.std.proofs.lemmas.Grind.{flat_map-append}
-use Rattle.std.proofs.lemmas.List.Elements.{filter-append}
+use Rattle.std.proofs.lemmas.List.Elements.{All-weaker, filter-append}
 use Rattle.std.proofs.lemmas.List.FromFn.{filter_of_map_range_with_len_more}
 use Rattle.sky_math.specs.Circle.{wrapped}
 use Rattle.sky_units.specs.SpotData.{SpotData}
@@ -98,11 +98,19 @@ at_or_before spots i j d order hi hj = elim (cases_order j i) [
   | inr (inr gt) ↦ absurd (omega arith)
 ]
 
--- no spot up to the earlier one makes a pair with it
-pub none_before : (s : SettingsData) (spots : List SpotData) (i j : ℕ) (d : SpotData) → EpochsDontFall spots → i < length spots → j < i + 1 → are_pair_at s spots (i, j) ≡ false
-none_before s spots i j d order hi hj =
+-- no spot that is not later than the earlier one makes a pair with it
+pub none_passed : (s : SettingsData) (spots : List SpotData) (i later j : ℕ) (d : SpotData) → i < length spots → later ≤ length spots → All (λ (spot : SpotData). spot.epoch ≤ℤ (get_or spots i d).epoch) (take later spots) → j < later → are_pair_at s spots (i, j) ≡ false
+none_passed s spots i later j d hi bound passed hj =
     let lj : j < length spots = omega arith in
-    rw (at_places s spots i j d hi lj) (no_pair_before s (get_or spots i d) (get_or spots j d) (at_or_before spots i j d order hi (omega arith)))
+    let inside : j < length (take later spots) = rw (length-take later spots) (omega arith) in
+    let here : (get_or (take later spots) j d).epoch ≤ℤ (get_or spots i d).epoch = passed j d inside in
+    rw (at_places s spots i j d hi lj) (no_pair_before s (get_or spots i d) (get_or spots j d) (rw (get_or-take later spots j d hj) at here))
+
+-- spots that are not later than one are not later than any after it
+pub passed_on : (spots : List SpotData) (first later i : ℕ) (d : SpotData) → EpochsDontFall spots → first < i → i < length spots → All (λ (spot : SpotData). spot.epoch ≤ℤ (get_or spots first d).epoch) (take later spots) → All (λ (spot : SpotData). spot.epoch ≤ℤ (get_or spots i d).epoch) (take later spots)
+passed_on spots first later i d order fi il passed =
+    let rise : (get_or spots first d).epoch ≤ℤ (get_or spots i d).epoch = order first i d fi il in
+    All-weaker (λ (spot : SpotData). spot.epoch ≤ℤ (get_or spots first d).epoch) (λ (spot : SpotData). spot.epoch ≤ℤ (get_or spots i d).epoch) (λ spot h. omega (arith, ints, h, rise)) (take later spots) passed
 
 -- once a spot lies beyond the gap, so does each after it
 pub none_beyond : (s : SettingsData) (spots : List SpotData) (i m j : ℕ) (d : SpotData) → EpochsDontFall spots → i < length spots → m < length spots → s.pair_gap <ℤ ((get_or spots m d).epoch -ℤ (get_or spots i d).epoch) → m ≤ j → are_pair_at s spots (i, j) ≡ false

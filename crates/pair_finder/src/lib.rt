@@ -1,9 +1,10 @@
 //! The pairs of one night: two detections that one object of a bounded rate may have left.
 #![tactic(auto)]
 
-ghost use Rattle.std.specs.Prelude.{◌≡◌, ◌<◌, ◌^◌, pos, negsuc, length, IfOk, OnOk, ◌++◌, map};
-ghost use Rattle.std.specs.List.{filter};
+ghost use Rattle.std.specs.Prelude.{◌≡◌, ◌<◌, ◌≤◌, ◌^◌, pos, negsuc, ◌≤ℤ◌, ◌<ℤ◌, length, slice_index_or, take, IfOk, OnOk, ◌++◌, map};
+ghost use Rattle.std.specs.List.{All, filter};
 ghost use Rattle.sky_units.specs.Ranges.{IsBetween};
+ghost use Rattle.sky_units.specs.SpotData.{SpotData};
 ghost use Rattle.sky_units.specs.Pairs.{keeps_rate as keeps_rate_of, are_pair as are_pair_of, are_pair_at, pairs_of, below, EpochsDontFall};
 
 use sky_units::{NoMemory, Settings, Spot, wrap};
@@ -25,31 +26,55 @@ pub fn pairs(
     ensures { IfOk result (λ pairs. pairs.items ≡ pairs_of settings.now spots.now) }
 {
     let mut found = Vec::new(alloc);
+    let mut later = 0;
     for first in 0..spots.len() {
-        push_partners(&mut found, spots, first, settings)?;
+        later = first_after(spots, &spots[first], later);
+        push_partners(&mut found, spots, first, later, settings)?;
     }
     Ok(found)
 }
 
-/// Adds the pairs whose earlier spot stands at the place `first`, in order of the later one.
+/// The first place from `from` on of a spot that is later than `earlier`, or the number of all spots.
+/// Spots of one epoch are so passed over once, and not once for each of them.
+fn first_after(spots: &[Spot], earlier: &Spot, from: usize) -> usize
+    requires from { from ≤ length spots.now }
+    requires passed { All (λ spot. spot.epoch ≤ℤ earlier.now.epoch) (take from spots.now) }
+    ensures bound { result ≤ length spots.now }
+    ensures passed { All (λ spot. spot.epoch ≤ℤ earlier.now.epoch) (take result spots.now) }
+    ensures later { (d : SpotData) → result < length spots.now → earlier.now.epoch <ℤ (slice_index_or spots.now result d).epoch }
+{
+    for place in from..spots.len() {
+        let spot = spots[place];
+        if spot.epoch > earlier.epoch {
+            return place;
+        }
+    }
+    spots.len()
+}
+
+/// Adds the pairs whose earlier spot stands at the place `first`, in order of the later one. No spot
+/// before the place `later` is later than it.
 fn push_partners(
     found: &mut Vec<(u32, u32)>,
     spots: &[Spot],
     first: usize,
+    later: usize,
     settings: &Settings,
 ) -> Result<(), NoMemory>
     requires few { length spots.now < 2 ^ 32 }
     requires order { EpochsDontFall spots.now }
     requires within { first < length spots.now }
+    requires bound { later ≤ length spots.now }
+    requires passed { (d : SpotData) → All (λ spot. spot.epoch ≤ℤ (slice_index_or spots.now first d).epoch) (take later spots.now) }
     ensures { OnOk result (found.new.items ≡ found.old.items ++ filter (are_pair_at settings.now spots.now) (map (λ second. (first, second)) (below (length spots.now)))) }
 {
     let earlier = spots[first];
-    for second in first + 1..spots.len() {
-        let later = spots[second];
-        if later.epoch - earlier.epoch > settings.pair_gap {
+    for second in later..spots.len() {
+        let other = spots[second];
+        if other.epoch - earlier.epoch > settings.pair_gap {
             break;
         }
-        if are_pair(&earlier, &later, settings) {
+        if are_pair(&earlier, &other, settings) {
             found.push((first as u32, second as u32))?;
         }
     }
@@ -104,7 +129,7 @@ mod tests {
     }
 
     #[test]
-    fn collapse_and_purge_of_one_night(rt: HostRuntime) -> Result<(), NoMemory> {
+    fn pairs_of_one_night(rt: HostRuntime) -> Result<(), NoMemory> {
         let spots = [
             spot(0, 59_000_250_000, 10_000_000),
             spot(1, 59_000_260_000, 10_001_000),

@@ -1,33 +1,27 @@
 -- The spots of a choice: they are spots of the nights, their epochs rise, and their numbers tell the choice.
-use Rattle.std.proofs.Common.{◌≡◌, ℕ, ◌+◌, ◌<◌, ◌≤◌, ◌<ℤ◌, List, [], ◌∷◌, ◌++◌, length, take, drop, map, get_or, suc, refl, sym, subst, ap, ◌∙◌, arith}
+use Rattle.std.proofs.Common.{◌≡◌, ℕ, ◌+◌, ◌<◌, ◌≤◌, ◌<ℤ◌, List, [], ◌∷◌, ◌++◌, length, take, drop, map, get_or, refl, sym, subst, ap, ◌∙◌, arith}
 use Rattle.std.proofs.lemmas.Int.{ints}
 use Rattle.std.proofs.lemmas.List.{take-append-drop, get_or-map, length-map}
 use Rattle.std.proofs.lemmas.List.Elements.{All-cons, All-head, All-tail, All-contains, Contains-get_or, Contains-append_right, Contains-append_cases}
 use Rattle.std.specs.List.{All, Contains}
 use mathlib.Core.Logic.{inl, inr}
-use Rattle.sky_math.specs.Lists.{EachTwo}
 use Rattle.sky_units.proofs.RisingLists.{rising_across}
 use Rattle.sky_units.specs.Arcs.{HaveRisingEpochs}
 use Rattle.sky_units.specs.SpotData.{SpotData}
-use Rattle.sky_units.specs.TrackletData.{IsTracklet, spots_of}
+use Rattle.sky_units.specs.TrackletData.{TrackletData, TrackSetData, NightTracklets, IsTracklet, spots_of}
 use Rattle.sky_units.specs.Tracks.{AreAmong, AreNights, IsChoice, IsHeld, IsNightBefore, IsOfNight, numbers_of}
+use Rattle.night_tree.proofs.EachTwoOf.{each_two_head, each_two_tail}
 use Rattle.plain_tracks.specs.Growth.{AreTestable, MayGrow}
 use Rattle.plain_tracks.proofs.Steps.{in_none, choice_push, choice_wider, taken}
 
--- ---- the first of a list, and the others
-pub each_two_head : {X : Type 0} → (R : X → X → Type 0) (x : X) (xs : List X) → EachTwo R (x ∷ xs) → All (R x) xs
-each_two_head R x xs h = λ k d l. h 0 (suc k) d (omega arith) (omega arith)
-
-pub each_two_tail : {X : Type 0} → (R : X → X → Type 0) (x : X) (xs : List X) → EachTwo R (x ∷ xs) → EachTwo R xs
-each_two_tail R x xs h = λ i j d ij jl. h (suc i) (suc j) d (omega arith) (omega arith)
-
-pub held_here : (night : List (List SpotData)) (nights : List (List (List SpotData))) (spot : SpotData) → IsOfNight night spot → IsHeld (night ∷ nights) spot
+-- ---- the first of some nights, and the others
+pub held_here : (night : NightTracklets) (nights : List NightTracklets) (spot : SpotData) → IsOfNight night spot → IsHeld (night ∷ nights) spot
 held_here night nights spot o = (night, (0, omega arith, refl), o)
 
-pub held_later : (night : List (List SpotData)) (nights : List (List (List SpotData))) (spot : SpotData) → IsHeld nights spot → IsHeld (night ∷ nights) spot
+pub held_later : (night : NightTracklets) (nights : List NightTracklets) (spot : SpotData) → IsHeld nights spot → IsHeld (night ∷ nights) spot
 held_later night nights spot w = (w.0, Contains-append_right (night ∷ []) nights w.0 w.1, w.2)
 
-pub nights_tail : (night : List (List SpotData)) (nights : List (List (List SpotData))) → AreNights (night ∷ nights) → AreNights nights
+pub nights_tail : (night : NightTracklets) (nights : List NightTracklets) → AreNights (night ∷ nights) → AreNights nights
 nights_tail night nights a = record {
   tracklets = All-tail (All IsTracklet) night nights a.tracklets;
   follow = each_two_tail IsNightBefore night nights a.follow;
@@ -36,13 +30,13 @@ nights_tail night nights a = record {
 }
 
 -- a spot of the first night is before each of the later ones
-pub before_held : (night : List (List SpotData)) (nights : List (List (List SpotData))) (spot later : SpotData) → AreNights (night ∷ nights) → IsOfNight night spot → IsHeld nights later → spot.epoch <ℤ later.epoch
+pub before_held : (night : NightTracklets) (nights : List NightTracklets) (spot later : SpotData) → AreNights (night ∷ nights) → IsOfNight night spot → IsHeld nights later → spot.epoch <ℤ later.epoch
 before_held night nights spot later a o w =
     let before : IsNightBefore night w.0 = All-contains (IsNightBefore night) nights w.0 (each_two_head IsNightBefore night nights a.follow) w.1 in
     before spot later o w.2
 
 -- ---- the spots of a choice are spots of the nights
-pub held_of_choice : (nights : List (List (List SpotData))) (set : List (List SpotData)) → IsChoice nights set → (spot : SpotData) → Contains (spots_of set) spot → IsHeld nights spot
+pub held_of_choice : (nights : List NightTracklets) (set : TrackSetData) → IsChoice nights set → (spot : SpotData) → Contains (spots_of set) spot → IsHeld nights spot
 held_of_choice [] set e spot c = absurd (in_none spot (subst (λ s. Contains (spots_of s) spot) e c))
 held_of_choice (night ∷ nights) set (inl d) spot c = held_later night nights spot (held_of_choice nights set d spot c)
 held_of_choice (night ∷ nights) set (inr w) spot c =
@@ -53,7 +47,7 @@ held_of_choice (night ∷ nights) set (inr w) spot c =
     ]
 
 -- ---- their epochs rise
-pub rising_of_choice : (nights : List (List (List SpotData))) (set : List (List SpotData)) → AreNights nights → IsChoice nights set → HaveRisingEpochs (spots_of set)
+pub rising_of_choice : (nights : List NightTracklets) (set : TrackSetData) → AreNights nights → IsChoice nights set → HaveRisingEpochs (spots_of set)
 rising_of_choice [] set a e = subst (λ s. HaveRisingEpochs (spots_of s)) (sym e) (λ i j d ij jn. absurd (omega arith))
 rising_of_choice (night ∷ nights) set a (inl c) = rising_of_choice nights set (nights_tail night nights a) c
 rising_of_choice (night ∷ nights) set a (inr w) =
@@ -65,7 +59,7 @@ rising_of_choice (night ∷ nights) set a (inr w) =
     (held_of_choice nights w.1 w.4 (get_or (spots_of w.1) j d) (Contains-get_or (spots_of w.1) j d jl))) in
     subst (λ s. HaveRisingEpochs (spots_of s)) (sym w.3) whole
 
-pub testable_of_choice : (nights : List (List (List SpotData))) (set : List (List SpotData)) → AreNights nights → IsChoice nights set → AreTestable (spots_of set)
+pub testable_of_choice : (nights : List NightTracklets) (set : TrackSetData) → AreNights nights → IsChoice nights set → AreTestable (spots_of set)
 testable_of_choice nights set a c = record {
   rising = rising_of_choice nights set a c;
   short = λ i j d ij jl. a.short (get_or (spots_of set) i d) (get_or (spots_of set) j d)
@@ -73,7 +67,7 @@ testable_of_choice nights set a c = record {
       (held_of_choice nights set c (get_or (spots_of set) j d) (Contains-get_or (spots_of set) j d jl));
 }
 
-pub may_grow : (nights : List (List (List SpotData))) (i : ℕ) (night set : List (List SpotData)) → AreNights nights → i < length nights → night ≡ get_or nights i night → IsChoice (take i nights) set → MayGrow set night
+pub may_grow : (nights : List NightTracklets) (i : ℕ) (night : NightTracklets) (set : TrackSetData) → AreNights nights → i < length nights → night ≡ get_or nights i night → IsChoice (take i nights) set → MayGrow set night
 may_grow nights i night set a l e c = λ tracklet k.
     let more : IsChoice (take i nights ++ night ∷ []) (set ++ tracklet ∷ []) = choice_push (take i nights) night set tracklet k c in
     let front : IsChoice (take (i + 1) nights) (set ++ tracklet ∷ []) = subst (λ ns. IsChoice ns (set ++ tracklet ∷ [])) (sym (taken nights i night l e)) more in
@@ -109,17 +103,17 @@ same_split P (x ∷ xs) ys (u ∷ us) vs px pu py pv e =
     let joined : x ∷ xs ≡ u ∷ us = cc in
     (joined, rest.1)
 
-all_of_night : (night : List (List SpotData)) (tracklet : List SpotData) → Contains night tracklet → All (IsOfNight night) tracklet
+all_of_night : (night : NightTracklets) (tracklet : TrackletData) → Contains night tracklet → All (IsOfNight night) tracklet
 all_of_night night tracklet c = λ k d l. (tracklet, c, Contains-get_or tracklet k d l)
 
-none_of_night : (night : List (List SpotData)) (nights : List (List (List SpotData))) (set : List (List SpotData)) → AreNights (night ∷ nights) → IsChoice nights set → All (λ s. ¬ IsOfNight night s) (spots_of set)
+none_of_night : (night : NightTracklets) (nights : List NightTracklets) (set : TrackSetData) → AreNights (night ∷ nights) → IsChoice nights set → All (λ s. ¬ IsOfNight night s) (spots_of set)
 none_of_night night nights set a c = λ k d l o.
     let spot : SpotData = get_or (spots_of set) k d in
     let b : spot.epoch <ℤ spot.epoch = before_held night nights spot spot a o (held_of_choice nights set c spot (Contains-get_or (spots_of set) k d l)) in
     omega (arith, ints, b)
 
 -- a tracklet of the first night has a spot that no choice of the later nights has
-not_without : (night : List (List SpotData)) (nights : List (List (List SpotData))) (tracklet : List SpotData) (rest set : List (List SpotData)) → AreNights (night ∷ nights) → Contains night tracklet → IsChoice nights set → spots_of set ≡ tracklet ++ spots_of rest → ⊥
+not_without : (night : NightTracklets) (nights : List NightTracklets) (tracklet : TrackletData) (rest set : TrackSetData) → AreNights (night ∷ nights) → Contains night tracklet → IsChoice nights set → spots_of set ≡ tracklet ++ spots_of rest → ⊥
 not_without night nights [] rest set a k c e =
     let one : IsTracklet [] = All-contains IsTracklet night [] (All-head (All IsTracklet) night nights a.tracklets) k in
     let two : 2 ≤ length {A = SpotData} [] = one.two in
@@ -128,7 +122,7 @@ not_without night nights (s ∷ tracklet) rest set a k c e =
     let no : All (λ s. ¬ IsOfNight night s) (s ∷ (tracklet ++ spots_of rest)) = subst (All (λ s. ¬ IsOfNight night s)) e (none_of_night night nights set a c) in
     All-head (λ s. ¬ IsOfNight night s) s (tracklet ++ spots_of rest) no (s ∷ tracklet, k, (0, omega arith, refl))
 
-pub same_choice : (nights : List (List (List SpotData))) (one other : List (List SpotData)) → AreNights nights → IsChoice nights one → IsChoice nights other → spots_of one ≡ spots_of other → one ≡ other
+pub same_choice : (nights : List NightTracklets) (one other : TrackSetData) → AreNights nights → IsChoice nights one → IsChoice nights other → spots_of one ≡ spots_of other → one ≡ other
 same_choice [] one other a c d e = c ∙ sym d
 same_choice (night ∷ nights) one other a (inl c) (inl d) e = same_choice nights one other (nights_tail night nights a) c d e
 same_choice (night ∷ nights) one other a (inl c) (inr w) e = absurd (not_without night nights w.0 w.1 one a w.2 c (e ∙ ap spots_of w.3))
@@ -141,7 +135,7 @@ same_choice (night ∷ nights) one other a (inr v) (inr w) e =
     let whole : v.0 ∷ v.1 ≡ w.0 ∷ w.1 = cc in
     v.3 ∙ (whole ∙ sym w.3)
 
-pub same_by_number_lists : (nights : List (List (List SpotData))) (one other : List (List SpotData)) → AreNights nights → IsChoice nights one → IsChoice nights other → numbers_of one ≡ numbers_of other → one ≡ other
+pub same_by_number_lists : (nights : List NightTracklets) (one other : TrackSetData) → AreNights nights → IsChoice nights one → IsChoice nights other → numbers_of one ≡ numbers_of other → one ≡ other
 same_by_number_lists nights one other a c d e =
     same_choice nights one other a c d (same_by_numbers (spots_of one) (spots_of other)
     (λ x y p q. a.numbered x y (held_of_choice nights one c x p) (held_of_choice nights other d y q)) e)

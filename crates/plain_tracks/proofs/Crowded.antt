@@ -5,7 +5,7 @@ use Rattle.std.specs.List.{All, Contains}
 use mathlib.Core.Logic.{◌⊎◌, inl, inr}
 use Rattle.sky_units.specs.Tracks.{AreAmong}
 use Rattle.plain_tracks.specs.Numbers.{AreDifferent, IsMaximalAmong}
-use Rattle.plain_tracks.proofs.Choices.{each_two_head, each_two_tail}
+use Rattle.night_tree.proofs.EachTwoOf.{each_two_head, each_two_tail}
 use Rattle.plain_tracks.proofs.Entries.{in_front, in_rest, front_or_rest}
 use Rattle.plain_tracks.proofs.Steps.{in_none}
 

@@ -1,10 +1,10 @@
 pub mod Agreement
 pub mod Choices
 pub mod Crowded
+pub mod Distinct
 pub mod Entries
 pub mod Existence
 pub mod Members
-pub mod PairNights
-pub mod Placing
+pub mod MoreNights
 pub mod Steps
 pub mod Tracks

@@ -1,12 +1,10 @@
 -- Lists of exactly the things of a property, and properties that hold or don't of each thing.
-use Rattle.std.proofs.Common.{◌≡◌, ℕ, List, [], ◌∷◌, map, sym, subst, ◌↔◌, arith}
-use Rattle.std.proofs.lemmas.Bool.{cases_eq}
+use Rattle.std.proofs.Common.{◌≡◌, List, [], ◌∷◌, map, sym, subst, ◌↔◌, arith}
 use Rattle.std.proofs.lemmas.List.Elements.{All-nil, All-cons, All-head, All-tail}
 use Rattle.std.specs.List.{All, Contains}
-use Prim.Native.Nat.{zero, suc}
 use mathlib.Core.Logic.{◌⊎◌, inl, inr}
 use Rattle.sky_math.specs.Lists.{EachTwo}
-use Rattle.plain_tracks.proofs.Choices.{each_two_head, each_two_tail}
+use Rattle.night_tree.proofs.EachTwoOf.{each_two_cons, each_two_head, each_two_tail}
 use Rattle.plain_tracks.proofs.Entries.{in_front, in_rest, front_or_rest}
 use Rattle.plain_tracks.proofs.Steps.{in_none, mapped}
 
@@ -33,22 +31,17 @@ pub all_or_not : {X : Type 0} → (P : X → Type 0) → ((x : X) → IsDecided 
 all_or_not P d [] = inl (All-nil P)
 all_or_not P d (x ∷ xs) = reworded (λ h. All-cons P x xs h.0 h.1) (λ h. (All-head P x xs h, All-tail P x xs h)) (both (d x) (all_or_not P d xs))
 
-pub each_two_cons : {X : Type 0} → (R : X → X → Type 0) (x : X) (xs : List X) → All (R x) xs → EachTwo R xs → EachTwo R (x ∷ xs)
-each_two_cons R x xs h t i zero d ij jl = absurd (omega arith)
-each_two_cons R x xs h t zero (suc j) d ij jl = h j d (omega arith)
-each_two_cons R x xs h t (suc i) (suc j) d ij jl = t i j d (omega arith) (omega arith)
-
 pub each_two_or_not : {X : Type 0} → (R : X → X → Type 0) → ((x y : X) → IsDecided (R x y)) → (xs : List X) → IsDecided (EachTwo R xs)
 each_two_or_not R d [] = inl (λ i j e ij jl. absurd (omega arith))
 each_two_or_not R d (x ∷ xs) = reworded (λ h. each_two_cons R x xs h.0 h.1) (λ h. (each_two_head R x xs h, each_two_tail R x xs h)) (both (all_or_not (R x) (d x) xs) (each_two_or_not R d xs))
 
-pub contains_or_not : (ns : List ℕ) (n : ℕ) → IsDecided (Contains ns n)
-contains_or_not [] n = inr (in_none n)
-contains_or_not (m ∷ ns) n = elim (cases_eq m n) [
-  | inl e ↦ inl (subst (Contains (m ∷ ns)) e (in_front m ns))
-  | inr differ ↦ elim (contains_or_not ns n) [
-    | inl c ↦ inl (in_rest m ns n c)
-    | inr never ↦ inr (λ c. elim (front_or_rest m ns n c) [ inl e ↦ differ e | inr d ↦ never d ])
+pub contains_or_not : {X : Type 0} → (xs : List X) (x : X) → ((y : X) → Contains xs y → IsDecided (y ≡ x)) → IsDecided (Contains xs x)
+contains_or_not [] x same = inr (in_none x)
+contains_or_not (y ∷ ys) x same = elim (same y (in_front y ys)) [
+  | inl e ↦ inl (subst (Contains (y ∷ ys)) e (in_front y ys))
+  | inr differ ↦ elim (contains_or_not ys x (λ z c. same z (in_rest y ys z c))) [
+    | inl c ↦ inl (in_rest y ys x c)
+    | inr never ↦ inr (λ c. elim (front_or_rest y ys x c) [ inl e ↦ differ e | inr d ↦ never d ])
   ]
 ]
 

@@ -11,7 +11,7 @@ use Rattle.sky_units.specs.Arcs.{AreNear}
 use Rattle.sky_units.specs.Motion.{AxisAdmits, point_from, points, tolerance}
 use Rattle.sky_units.specs.SettingsData.{AreSettings, SettingsData}
 use Rattle.sky_units.specs.SpotData.{SpotData}
-use Rattle.sky_units.specs.TrackletData.{spots_of}
+use Rattle.sky_units.specs.TrackletData.{TrackletData, TrackSetData, NightTracklets, spots_of}
 use Rattle.sky_units.specs.Tracks.{IsChoice, IsFittingSet}
 use Rattle.sky_units.specs.declared.axis.Axis.{Axis}
 use Rattle.sky_units.specs.declared.axis.Axis.TheVariants.{Ra, Dec}
@@ -27,11 +27,11 @@ mapped f xs i x h e = (simp length-map h, ap f e ∙ sym (get_or-map f xs i x (f
 pub in_none : {X : Type 0} → (x : X) → Contains [] x → ⊥
 in_none x c = let l : c.0 < 0 = c.1 in omega arith
 
-pub spots_of-append : (xs ys : List (List SpotData)) → spots_of (xs ++ ys) ≡ spots_of xs ++ spots_of ys
+pub spots_of-append : (xs ys : TrackSetData) → spots_of (xs ++ ys) ≡ spots_of xs ++ spots_of ys
 spots_of-append [] ys = refl
 spots_of-append (x ∷ xs) ys = rw (spots_of-append xs ys) (sym (append_assoc x (spots_of xs) (spots_of ys)))
 
-pub spots_of-push : (xs : List (List SpotData)) (t : List SpotData) → spots_of (xs ++ t ∷ []) ≡ spots_of xs ++ t
+pub spots_of-push : (xs : TrackSetData) (t : List SpotData) → spots_of (xs ++ t ∷ []) ≡ spots_of xs ++ t
 spots_of-push xs t = spots_of-append xs (t ∷ []) ∙ ap (λ l. spots_of xs ++ l) (append-nil t)
 
 -- ---- what fits has parts that fit
@@ -59,25 +59,25 @@ fit_left settings xs ys f = record {
 }
 
 -- ---- choices of one more night
-pub choice_none : (nights : List (List (List SpotData))) → IsChoice nights []
+pub choice_none : (nights : List NightTracklets) → IsChoice nights []
 choice_none [] = refl
 choice_none (night ∷ nights) = inl (choice_none nights)
 
-pub choice_wider : (nights more : List (List (List SpotData))) (set : List (List SpotData)) → IsChoice nights set → IsChoice (nights ++ more) set
+pub choice_wider : (nights more : List NightTracklets) (set : TrackSetData) → IsChoice nights set → IsChoice (nights ++ more) set
 choice_wider [] more set e = subst (IsChoice more) (sym e) (choice_none more)
 choice_wider (night ∷ nights) more set (inl c) = inl (choice_wider nights more set c)
 choice_wider (night ∷ nights) more set (inr w) = inr (w.0, w.1, w.2, w.3, choice_wider nights more w.1 w.4)
 
-pub choice_push : (nights : List (List (List SpotData))) (night : List (List SpotData)) (set : List (List SpotData)) (tracklet : List SpotData) → Contains night tracklet → IsChoice nights set → IsChoice (nights ++ night ∷ []) (set ++ tracklet ∷ [])
+pub choice_push : (nights : List NightTracklets) (night : NightTracklets) (set : TrackSetData) (tracklet : TrackletData) → Contains night tracklet → IsChoice nights set → IsChoice (nights ++ night ∷ []) (set ++ tracklet ∷ [])
 choice_push [] night set tracklet k e = inr (tracklet, [], k, ap (λ s. s ++ tracklet ∷ []) e, refl)
 choice_push (first ∷ nights) night set tracklet k (inl c) = inl (choice_push nights night set tracklet k c)
 choice_push (first ∷ nights) night set tracklet k (inr w) = inr (w.0, w.1 ++ tracklet ∷ [], w.2, ap (λ s. s ++ tracklet ∷ []) w.3, choice_push nights night w.1 tracklet k w.4)
 
 -- a choice of the nights before, or one with a tracklet of the last night
-abbrev pub EndsIn : List (List (List SpotData)) → List (List SpotData) → List (List SpotData) → Type 0
-EndsIn nights night set = (tracklet : List SpotData) × (rest : List (List SpotData)) × Contains night tracklet × (set ≡ rest ++ tracklet ∷ []) × IsChoice nights rest
+abbrev pub EndsIn : List NightTracklets → NightTracklets → TrackSetData → Type 0
+EndsIn nights night set = (tracklet : TrackletData) × (rest : TrackSetData) × Contains night tracklet × (set ≡ rest ++ tracklet ∷ []) × IsChoice nights rest
 
-pub choice_cases : (nights : List (List (List SpotData))) (night : List (List SpotData)) (set : List (List SpotData)) → IsChoice (nights ++ night ∷ []) set → IsChoice nights set ⊎ EndsIn nights night set
+pub choice_cases : (nights : List NightTracklets) (night : NightTracklets) (set : TrackSetData) → IsChoice (nights ++ night ∷ []) set → IsChoice nights set ⊎ EndsIn nights night set
 choice_cases [] night set (inl e) = inl e
 choice_cases [] night set (inr w) = inr (w.0, [], w.2, w.3 ∙ ap (λ s. w.0 ∷ s) w.4, refl)
 choice_cases (first ∷ nights) night set (inl c) = elim (choice_cases nights night set c) [ inl d ↦ inl (inl d) | inr w ↦ inr (w.0, w.1, w.2, w.3, inl w.4) ]
@@ -87,19 +87,19 @@ choice_cases (first ∷ nights) night set (inr v) = elim (choice_cases nights ni
 ]
 
 -- ---- a set with each tracklet of the next night
-abbrev pub HasGrown : SettingsData → List (List SpotData) → List (List SpotData) → List (List (List SpotData)) → List (List (List SpotData)) → Type 0
-HasGrown settings set night old new = (other : List (List SpotData)) → Contains new other ↔ (Contains old other ⊎ IsGrown settings set night other)
+abbrev pub HasGrown : SettingsData → TrackSetData → NightTracklets → List TrackSetData → List TrackSetData → Type 0
+HasGrown settings set night old new = (other : TrackSetData) → Contains new other ↔ (Contains old other ⊎ IsGrown settings set night other)
 
-pub grown_none : (settings : SettingsData) (set : List (List SpotData)) (old : List (List (List SpotData))) → HasGrown settings set [] old old
+pub grown_none : (settings : SettingsData) (set : TrackSetData) (old : List TrackSetData) → HasGrown settings set [] old old
 grown_none settings set old = λ other. (λ c. inl c, λ w. elim w [ inl c ↦ c | inr g ↦ absurd (in_none g.tracklet g.of_night) ])
 
-grown_wider : (settings : SettingsData) (set night : List (List SpotData)) (tracklet : List SpotData) (other : List (List SpotData)) → IsGrown settings set night other → IsGrown settings set (night ++ tracklet ∷ []) other
+grown_wider : (settings : SettingsData) (set : TrackSetData) (night : NightTracklets) (tracklet : TrackletData) (other : TrackSetData) → IsGrown settings set night other → IsGrown settings set (night ++ tracklet ∷ []) other
 grown_wider settings set night tracklet other g = record { tracklet = g.tracklet; of_night = Contains-append_left night (tracklet ∷ []) g.tracklet g.of_night; is = g.is; fit = g.fit }
 
-grown_last : (settings : SettingsData) (set night : List (List SpotData)) (tracklet : List SpotData) → FitTogether settings (spots_of (set ++ tracklet ∷ [])) → IsGrown settings set (night ++ tracklet ∷ []) (set ++ tracklet ∷ [])
+grown_last : (settings : SettingsData) (set : TrackSetData) (night : NightTracklets) (tracklet : TrackletData) → FitTogether settings (spots_of (set ++ tracklet ∷ [])) → IsGrown settings set (night ++ tracklet ∷ []) (set ++ tracklet ∷ [])
 grown_last settings set night tracklet f = record { tracklet = tracklet; of_night = Contains-push night tracklet; is = refl; fit = f }
 
-grown_cases : (settings : SettingsData) (set night : List (List SpotData)) (tracklet : List SpotData) (other : List (List SpotData)) → IsGrown settings set (night ++ tracklet ∷ []) other → IsGrown settings set night other ⊎ ((other ≡ set ++ tracklet ∷ []) × FitTogether settings (spots_of (set ++ tracklet ∷ [])))
+grown_cases : (settings : SettingsData) (set : TrackSetData) (night : NightTracklets) (tracklet : TrackletData) (other : TrackSetData) → IsGrown settings set (night ++ tracklet ∷ []) other → IsGrown settings set night other ⊎ ((other ≡ set ++ tracklet ∷ []) × FitTogether settings (spots_of (set ++ tracklet ∷ [])))
 grown_cases settings set night tracklet other g = elim (Contains-push_cases night tracklet g.tracklet g.of_night) [
   | inl c ↦ inl record { tracklet = g.tracklet; of_night = c; is = g.is; fit = g.fit }
   | inr e ↦
@@ -107,7 +107,7 @@ grown_cases settings set night tracklet other g = elim (Contains-push_cases nigh
       inr (same, subst (λ s. FitTogether settings (spots_of s)) same g.fit)
 ]
 
-pub grown_yes : (settings : SettingsData) (set night : List (List SpotData)) (old new : List (List (List SpotData))) (tracklet : List SpotData) → FitTogether settings (spots_of (set ++ tracklet ∷ [])) → HasGrown settings set night old new → HasGrown settings set (night ++ tracklet ∷ []) old (new ++ (set ++ tracklet ∷ []) ∷ [])
+pub grown_yes : (settings : SettingsData) (set : TrackSetData) (night : NightTracklets) (old new : List TrackSetData) (tracklet : TrackletData) → FitTogether settings (spots_of (set ++ tracklet ∷ [])) → HasGrown settings set night old new → HasGrown settings set (night ++ tracklet ∷ []) old (new ++ (set ++ tracklet ∷ []) ∷ [])
 grown_yes settings set night old new tracklet f h = λ other. (
   λ c. elim (Contains-push_cases new (set ++ tracklet ∷ []) other c) [
     | inl d ↦ elim ((h other).0 d) [ inl a ↦ inl a | inr g ↦ inr (grown_wider settings set night tracklet other g) ]
@@ -122,7 +122,7 @@ grown_yes settings set night old new tracklet f h = λ other. (
   ],
 )
 
-pub grown_no : (settings : SettingsData) (set night : List (List SpotData)) (old new : List (List (List SpotData))) (tracklet : List SpotData) → (FitTogether settings (spots_of (set ++ tracklet ∷ [])) → ⊥) → HasGrown settings set night old new → HasGrown settings set (night ++ tracklet ∷ []) old new
+pub grown_no : (settings : SettingsData) (set : TrackSetData) (night : NightTracklets) (old new : List TrackSetData) (tracklet : TrackletData) → (FitTogether settings (spots_of (set ++ tracklet ∷ [])) → ⊥) → HasGrown settings set night old new → HasGrown settings set (night ++ tracklet ∷ []) old new
 grown_no settings set night old new tracklet f h = λ other. (
   λ c. elim ((h other).0 c) [ inl a ↦ inl a | inr g ↦ inr (grown_wider settings set night tracklet other g) ],
   λ w. elim w [
@@ -132,13 +132,13 @@ grown_no settings set night old new tracklet f h = λ other. (
 )
 
 -- ---- each of some sets
-abbrev pub HasSomeGrown : SettingsData → List (List (List SpotData)) → List (List SpotData) → List (List (List SpotData)) → Type 0
-HasSomeGrown settings sets night new = (other : List (List SpotData)) → Contains new other ↔ IsSomeGrown settings sets night other
+abbrev pub HasSomeGrown : SettingsData → List TrackSetData → NightTracklets → List TrackSetData → Type 0
+HasSomeGrown settings sets night new = (other : TrackSetData) → Contains new other ↔ IsSomeGrown settings sets night other
 
-pub some_none : (settings : SettingsData) (night : List (List SpotData)) → HasSomeGrown settings [] night []
+pub some_none : (settings : SettingsData) (night : NightTracklets) → HasSomeGrown settings [] night []
 some_none settings night = λ other. (λ c. absurd (in_none other c), λ w. absurd (in_none w.0 w.1))
 
-pub some_more : (settings : SettingsData) (sets : List (List (List SpotData))) (set night : List (List SpotData)) (new newer : List (List (List SpotData))) → HasSomeGrown settings sets night new → HasGrown settings set night new newer → HasSomeGrown settings (sets ++ set ∷ []) night newer
+pub some_more : (settings : SettingsData) (sets : List TrackSetData) (set : TrackSetData) (night : NightTracklets) (new newer : List TrackSetData) → HasSomeGrown settings sets night new → HasGrown settings set night new newer → HasSomeGrown settings (sets ++ set ∷ []) night newer
 some_more settings sets set night new newer h g = λ other. (
   λ c. elim ((g other).0 c) [
     | inl d ↦ (let w = (h other).0 d in (w.0, Contains-append_left sets (set ∷ []) w.0 w.1, w.2))
@@ -150,27 +150,27 @@ some_more settings sets set night new newer h g = λ other. (
   ],
 )
 
-pub all_grown : (settings : SettingsData) (sets : List (List (List SpotData))) (night : List (List SpotData)) (new : List (List (List SpotData))) → HasSomeGrown settings sets night new → (other : List (List SpotData)) → Contains (sets ++ new) other ↔ (Contains sets other ⊎ IsSomeGrown settings sets night other)
+pub all_grown : (settings : SettingsData) (sets : List TrackSetData) (night : NightTracklets) (new : List TrackSetData) → HasSomeGrown settings sets night new → (other : TrackSetData) → Contains (sets ++ new) other ↔ (Contains sets other ⊎ IsSomeGrown settings sets night other)
 all_grown settings sets night new h other = (
   λ c. elim (Contains-append_cases sets new other c) [ inl d ↦ inl d | inr d ↦ inr ((h other).0 d) ],
   λ w. elim w [ inl d ↦ Contains-append_left sets new other d | inr k ↦ Contains-append_right sets new other ((h other).1 k) ],
 )
 
 -- ---- fitting sets of one more night
-abbrev pub HoldsFitting : SettingsData → List (List (List SpotData)) → List (List (List SpotData)) → Type 0
-HoldsFitting settings nights sets = (set : List (List SpotData)) → Contains sets set ↔ IsFittingSet settings nights set
+abbrev pub HoldsFitting : SettingsData → List NightTracklets → List TrackSetData → Type 0
+HoldsFitting settings nights sets = (set : TrackSetData) → Contains sets set ↔ IsFittingSet settings nights set
 
-fitting_wider : (settings : SettingsData) (nights : List (List (List SpotData))) (night set : List (List SpotData)) → IsFittingSet settings nights set → IsFittingSet settings (nights ++ night ∷ []) set
+fitting_wider : (settings : SettingsData) (nights : List NightTracklets) (night : NightTracklets) (set : TrackSetData) → IsFittingSet settings nights set → IsFittingSet settings (nights ++ night ∷ []) set
 fitting_wider settings nights night set f = record { choice = choice_wider nights (night ∷ []) set f.choice; spread = f.spread; fits = f.fits }
 
-fitting_grown : (settings : SettingsData) (nights : List (List (List SpotData))) (night set other : List (List SpotData)) → IsFittingSet settings nights set → IsGrown settings set night other → IsFittingSet settings (nights ++ night ∷ []) other
+fitting_grown : (settings : SettingsData) (nights : List NightTracklets) (night : NightTracklets) (set other : TrackSetData) → IsFittingSet settings nights set → IsGrown settings set night other → IsFittingSet settings (nights ++ night ∷ []) other
 fitting_grown settings nights night set other f g = record {
   choice = subst (IsChoice (nights ++ night ∷ [])) (sym g.is) (choice_push nights night set g.tracklet g.of_night f.choice);
   spread = g.fit.spread;
   fits = g.fit.fits;
 }
 
-fitting_before : (settings : SettingsData) (nights : List (List (List SpotData))) (night other : List (List SpotData)) → FitTogether settings (spots_of other) → EndsIn nights night other → (set : List (List SpotData)) × IsFittingSet settings nights set × IsGrown settings set night other
+fitting_before : (settings : SettingsData) (nights : List NightTracklets) (night : NightTracklets) (other : TrackSetData) → FitTogether settings (spots_of other) → EndsIn nights night other → (set : TrackSetData) × IsFittingSet settings nights set × IsGrown settings set night other
 fitting_before settings nights night other f w =
     let spots : spots_of other ≡ spots_of w.1 ++ w.0 = ap spots_of w.3 ∙ spots_of-push w.1 w.0 in
     let before : FitTogether settings (spots_of w.1) = fit_left settings (spots_of w.1) w.0 (subst (FitTogether settings) spots f) in
@@ -190,7 +190,7 @@ none_fit settings s = λ set. (
   λ f. (0, omega arith, sym f.choice),
 )
 
-pub fitting_more : (settings : SettingsData) (nights : List (List (List SpotData))) (night : List (List SpotData)) (sets all : List (List (List SpotData))) → HoldsFitting settings nights sets → ((other : List (List SpotData)) → Contains all other ↔ (Contains sets other ⊎ IsSomeGrown settings sets night other)) → HoldsFitting settings (nights ++ night ∷ []) all
+pub fitting_more : (settings : SettingsData) (nights : List NightTracklets) (night : NightTracklets) (sets all : List TrackSetData) → HoldsFitting settings nights sets → ((other : TrackSetData) → Contains all other ↔ (Contains sets other ⊎ IsSomeGrown settings sets night other)) → HoldsFitting settings (nights ++ night ∷ []) all
 fitting_more settings nights night sets all h g = λ set. (
   λ c. elim ((g set).0 c) [
     | inl d ↦ fitting_wider settings nights night set ((h set).0 d)

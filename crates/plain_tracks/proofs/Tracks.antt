@@ -7,7 +7,7 @@ use Rattle.std.specs.List.{Contains, filter}
 use mathlib.Core.Logic.{inl, inr}
 use Rattle.sky_units.specs.SettingsData.{SettingsData}
 use Rattle.sky_units.specs.SpotData.{SpotData}
-use Rattle.sky_units.specs.TrackletData.{spots_of}
+use Rattle.sky_units.specs.TrackletData.{TrackSetData, NightTracklets, spots_of}
 use Rattle.sky_units.specs.Tracks.{AreAmong, AreNights, IsChoice, IsTrack, IsMaximalTrack, numbers_of}
 use Rattle.plain_tracks.specs.Numbers.{AreDifferent, AreKnownByNumbers, HaveDifferentNumbers, IsMaximalAmong}
 use Rattle.plain_tracks.proofs.Choices.{held_of_choice, rising_of_choice, same_by_number_lists, among_numbers, among_spots}
@@ -36,24 +36,24 @@ filter_exact p xs x = (
 )
 
 -- ---- tracks
-abbrev pub HoldsTracks : SettingsData → List (List (List SpotData)) → List (List (List SpotData)) → Type 0
-HoldsTracks settings nights tracks = (set : List (List SpotData)) → Contains tracks set ↔ IsTrack settings nights set
+abbrev pub HoldsTracks : SettingsData → List NightTracklets → List TrackSetData → Type 0
+HoldsTracks settings nights tracks = (set : TrackSetData) → Contains tracks set ↔ IsTrack settings nights set
 
-pub tracks_of_fitting : (settings : SettingsData) (nights sets tracks : List (List (List SpotData))) → HoldsFitting settings nights sets → ((set : List (List SpotData)) → Contains tracks set ↔ (Contains sets set × (3 ≤ length set))) → HoldsTracks settings nights tracks
+pub tracks_of_fitting : (settings : SettingsData) (nights : List NightTracklets) (sets tracks : List TrackSetData) → HoldsFitting settings nights sets → ((set : TrackSetData) → Contains tracks set ↔ (Contains sets set × (3 ≤ length set))) → HoldsTracks settings nights tracks
 tracks_of_fitting settings nights sets tracks h t = λ set. (
   λ c. (let w = (t set).0 c in record { fitting = (h set).0 w.0; three = w.1 }),
   λ k. (t set).1 ((h set).1 k.fitting, k.three),
 )
 
-pub known_by_numbers : (settings : SettingsData) (nights tracks : List (List (List SpotData))) → AreNights nights → HoldsTracks settings nights tracks → AreKnownByNumbers tracks
+pub known_by_numbers : (settings : SettingsData) (nights : List NightTracklets) (tracks : List TrackSetData) → AreNights nights → HoldsTracks settings nights tracks → AreKnownByNumbers tracks
 known_by_numbers settings nights tracks a h = λ one other c d e.
     same_by_number_lists nights one other a ((h one).0 c).fitting.choice ((h other).0 d).fitting.choice e
 
 -- spots of tracks of one number are one
-same_spots : (nights : List (List (List SpotData))) (one other : List (List SpotData)) → AreNights nights → IsChoice nights one → IsChoice nights other → (x y : SpotData) → Contains (spots_of one) x → Contains (spots_of other) y → x.num ≡ y.num → x ≡ y
+same_spots : (nights : List NightTracklets) (one other : TrackSetData) → AreNights nights → IsChoice nights one → IsChoice nights other → (x y : SpotData) → Contains (spots_of one) x → Contains (spots_of other) y → x.num ≡ y.num → x ≡ y
 same_spots nights one other a c d = λ x y p q. a.numbered x y (held_of_choice nights one c x p) (held_of_choice nights other d y q)
 
-pub maximal_exactly : (settings : SettingsData) (nights tracks : List (List (List SpotData))) → AreNights nights → HoldsTracks settings nights tracks → (set : List (List SpotData)) → (Contains tracks set × IsMaximalAmong (map numbers_of tracks) (numbers_of set)) ↔ IsMaximalTrack settings nights set
+pub maximal_exactly : (settings : SettingsData) (nights : List NightTracklets) (tracks : List TrackSetData) → AreNights nights → HoldsTracks settings nights tracks → (set : TrackSetData) → (Contains tracks set × IsMaximalAmong (map numbers_of tracks) (numbers_of set)) ↔ IsMaximalTrack settings nights set
 maximal_exactly settings nights tracks a h set = (
   λ w.
       let track : IsTrack settings nights set = (h set).0 w.0 in
@@ -82,7 +82,7 @@ if_both (Ok x) P Q R h p q = h x p q
 if_both (Err e) P Q R h p q = p
 
 -- the spots of a track have different numbers, since their epochs differ
-different_numbers : (nights : List (List (List SpotData))) (set : List (List SpotData)) → AreNights nights → IsChoice nights set → AreDifferent (numbers_of set)
+different_numbers : (nights : List NightTracklets) (set : TrackSetData) → AreNights nights → IsChoice nights set → AreDifferent (numbers_of set)
 different_numbers nights set a c = λ i j d ij jl e.
     let spots : List SpotData = spots_of set in
     let some : SpotData = record { num = 0; epoch = pos 0; ra = pos 0; dec = pos 0 } in
@@ -98,5 +98,5 @@ different_numbers nights set a c = λ i j d ij jl e.
     let itself : (get_or (spots_of set) j some).epoch <ℤ (get_or (spots_of set) j some).epoch = subst (λ (s : SpotData). s.epoch <ℤ (get_or (spots_of set) j some).epoch) same before in
     omega (arith, ints, itself)
 
-pub have_different_numbers : (settings : SettingsData) (nights tracks : List (List (List SpotData))) → AreNights nights → HoldsTracks settings nights tracks → HaveDifferentNumbers tracks
+pub have_different_numbers : (settings : SettingsData) (nights : List NightTracklets) (tracks : List TrackSetData) → AreNights nights → HoldsTracks settings nights tracks → HaveDifferentNumbers tracks
 have_different_numbers settings nights tracks a h = λ set c. different_numbers nights set a ((h set).0 c).fitting.choice

@@ -1,16 +1,12 @@
-//! What holds of each report list.
-ghost use Rattle.plain_tracks.specs.Laws.{ReportListsAgree, ReportListsExist};
+//! What holds of the maximal tracks of all nights.
+ghost use Rattle.plain_tracks.specs.Laws.{MaximalTracksExist};
 
 use quad_fit::fit_is_decided;
 
-/// Nights have one report list. It does nothing: its contract is the law.
-pub fn one_report_list()
-    ensures { ReportListsAgree }
-{}
-
-/// Nights have a report list, whatever the settings. It does nothing: its contract is the law.
-pub fn some_report_list()
-    ensures { ReportListsExist }
+/// The maximal tracks of nights can be listed, whatever the settings. It does nothing: its contract
+/// is the law.
+pub fn maximal_tracks_exist()
+    ensures { MaximalTracksExist }
 {
     fit_is_decided();
 }

@@ -1,9 +1,9 @@
-//! The report list by plain enumeration: every choice of at most one tracklet of each night, in so
+//! The maximal tracks by plain enumeration: every choice of at most one tracklet of each night, in so
 //! far as it fits.
 #![tactic(auto)]
 
-pub use laws::{one_report_list, some_report_list};
-pub use listing::report_list;
+pub use laws::maximal_tracks_exist;
+pub use listing::maximal_tracks;
 
 mod growing;
 mod laws;

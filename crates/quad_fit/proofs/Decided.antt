@@ -19,13 +19,11 @@ use Rattle.sky_units.specs.SettingsData.{SettingsData}
 use Rattle.sky_units.specs.SpotData.{SpotData}
 use Rattle.sky_units.specs.declared.axis.Axis.{Axis}
 use Rattle.sky_units.specs.declared.axis.Axis.TheVariants.{Ra, Dec}
-use Rattle.quad_fit.specs.Intervals.{Holds, HoldsExactly, IsAtLeast, IsAtMost, IsFilled, IsNarrowed}
+use Rattle.quad_fit.proofs.Intervals.{Interval, Holds, HoldsExactly, IsAtLeast, IsAtMost, IsFilled, IsNarrowed}
 use Rattle.quad_fit.specs.MarkRanges.{RiseInTime}
-use Rattle.quad_fit.specs.declared.intervals.Interval.{Interval}
 use Rattle.quad_fit.proofs.Admitted.{admitted_exactly, none_admitted}
-use Rattle.quad_fit.proofs.Ends.{at_least_of_higher, at_most_of_lower, ends_of_suits, ends_of_within, filled_of_between, narrowed_start, narrowed_then, scale_filled, suits_of_ends, triple_filled, within_of_ends}
+use Rattle.quad_fit.proofs.Ends.{at_least_of_higher, at_most_of_lower, ends_of_suits, ends_of_within, filled_of_between, narrowed_by, narrowed_start, narrowed_then, scale_filled, suits_of_ends, triple_filled, within_of_ends}
 use Rattle.quad_fit.proofs.MarkLists.{times_rise}
-use Rattle.quad_fit.proofs.Steps.{narrowed_by}
 
 -- ---- what two intervals have in common
 -- a fraction that bounds exactly what two fractions bound

@@ -1,17 +1,12 @@
 -- How fractions bound quotients, and what narrowing an interval leaves.
-use Rattle.std.proofs.Common.{◌≡◌, ℤ, pos, neg_ℤ, ◌+ℤ◌, ◌-ℤ◌, ◌*ℤ◌, ◌≤ℤ◌, ◌<ℤ◌, refl, arith}
+use Rattle.std.proofs.Common.{◌≡◌, ℤ, pos, neg_ℤ, ◌+ℤ◌, ◌-ℤ◌, ◌*ℤ◌, ◌≤ℤ◌, ◌<ℤ◌, arith}
 use Rattle.std.specs.Prelude.{Option, Some, None}
-use Rattle.std.specs.Ordering.{MatchOrdering}
-use Rattle.std.specs.declared.cmp.Ordering.{Ordering}
-use Rattle.std.specs.declared.cmp.Ordering.TheVariants.{Less, Equal, Greater}
-use Rattle.std.proofs.lemmas.Cmp.{int_ranked}
 use Rattle.sky_math.proofs.Lines.{at_most_chain}
 use Rattle.sky_math.proofs.Order.{linear, mul_le}
 use Rattle.sky_math.proofs.Ring.{mul_comm, add_mul, sub_mul, neg_mul}
 use Rattle.sky_math.specs.Quadratics.{IsWithin}
-use Rattle.sky_units.specs.FracData.{FracData, IsFrac, frac_cmp}
-use Rattle.quad_fit.specs.Intervals.{IsAtMost, IsAtLeast, IsFilled, IsNarrowed}
-use Rattle.quad_fit.specs.declared.intervals.Interval.{Interval}
+use Rattle.sky_units.specs.FracData.{FracData, IsFrac}
+use Rattle.quad_fit.proofs.Intervals.{Interval, IsAtMost, IsAtLeast, Holds, HoldsExactly, IsFilled, IsNarrowed}
 
 -- a/b in cross products: the order of two fractions carries over to what they bound
 pub at_most_of_lower : (f g : FracData) (a b : ℤ) → pos 0 <ℤ f.den → pos 0 <ℤ g.den → pos 0 <ℤ b → (f.num *ℤ g.den) ≤ℤ (g.num *ℤ f.den) → IsAtMost g a b → IsAtMost f a b
@@ -23,18 +18,6 @@ at_least_of_higher f g a b p q r h k = at_most_chain a b g.num g.den f.num f.den
 -- a quotient between two fractions orders them
 pub filled_of_between : (f g : FracData) (a b : ℤ) → pos 0 <ℤ f.den → pos 0 <ℤ g.den → pos 0 <ℤ b → IsAtMost f a b → IsAtLeast g a b → (f.num *ℤ g.den) ≤ℤ (g.num *ℤ f.den)
 filled_of_between f g a b p q r h k = at_most_chain f.num f.den a b g.num g.den p r q h k
-
--- ---- what comparing two fractions told
-pub less_from : (f g : FracData) (r : Ordering) → r ≡ frac_cmp f g → r ≡ Less → (f.num *ℤ g.den) <ℤ (g.num *ℤ f.den)
-less_from f g r h e = let m : MatchOrdering r ((f.num *ℤ g.den) <ℤ (g.num *ℤ f.den)) (f.num *ℤ g.den ≡ g.num *ℤ f.den) ((g.num *ℤ f.den) <ℤ (f.num *ℤ g.den)) = int_ranked (f.num *ℤ g.den) (g.num *ℤ f.den) r h in rw e at m
-
-not_less_cases : (x y : ℤ) (r : Ordering) → (r ≡ Less → ⊥) → MatchOrdering r (x <ℤ y) (x ≡ y) (y <ℤ x) → y ≤ℤ x
-not_less_cases x y Less n m = absurd (n refl)
-not_less_cases x y Equal n m = omega (arith, linear, m)
-not_less_cases x y Greater n m = omega (arith, linear, m)
-
-pub not_less_from : (f g : FracData) (r : Ordering) → r ≡ frac_cmp f g → (r ≡ Less → ⊥) → (g.num *ℤ f.den) ≤ℤ (f.num *ℤ g.den)
-not_less_from f g r h n = not_less_cases (f.num *ℤ g.den) (g.num *ℤ f.den) r n (int_ranked (f.num *ℤ g.den) (g.num *ℤ f.den) r h)
 
 pub positive_from : (n d : ℤ) → IsFrac n d → pos 0 <ℤ d
 positive_from n d f = omega (arith, linear)
@@ -82,18 +65,15 @@ narrowed_then from left Before Step Whole (Some r) before step join split = (
   ),
 )
 
--- nothing left after a step is nothing left at all
-pub narrowed_none : (from left : Interval) (Before Step Whole : ℤ → ℤ → Type 0) →
-    IsNarrowed from Before (Some left) → IsNarrowed left Step None → ((a b : ℤ) → Whole a b → Before a b × Step a b) → IsNarrowed from Whole None
-narrowed_none from left Before Step Whole before step split = λ a b p h w. step a b p ((before.1 a b p).1 (h, (split a b w).0)) (split a b w).1
-
 -- nothing asked, nothing narrowed
 pub narrowed_start : (from : Interval) (Whole : ℤ → ℤ → Type 0) → IsFilled from → ((a b : ℤ) → Whole a b) → IsNarrowed from Whole (Some from)
 narrowed_start from Whole filled all = (filled, λ a b p. (λ h. (h, all a b), λ h. h.0))
 
--- the same asked in other words
-pub narrowed_same : (from left : Interval) (Before Whole : ℤ → ℤ → Type 0) → IsNarrowed from Before (Some left) → ((a b : ℤ) → Before a b → Whole a b) → ((a b : ℤ) → Whole a b → Before a b) → IsNarrowed from Whole (Some left)
-narrowed_same from left Before Whole before there back = (before.0, λ a b p. (λ h. let f = (before.1 a b p).0 h in (f.0, there a b f.1), λ h. (before.1 a b p).1 (h.0, back a b h.1)))
+-- an interval that holds exactly what is wanted narrows to what is wanted
+pub narrowed_by : (left other : Interval) (Wanted : ℤ → ℤ → Type 0) (result : Option Interval) → HoldsExactly Wanted other → IsNarrowed left (Holds other) result → IsNarrowed left Wanted result
+narrowed_by left other Wanted None exact n = λ a b p h w. n a b p h ((exact a b p).1 w)
+narrowed_by left other Wanted (Some r) exact n =
+    (n.0, λ a b p. (λ h. let s = (n.1 a b p).0 h in (s.0, (exact a b p).0 s.1), λ h. (n.1 a b p).1 (h.0, (exact a b p).1 h.1)))
 
 -- the interval of a triple isn't empty
 pub triple_filled : (n k m : ℤ) → pos 0 ≤ℤ k → pos 0 <ℤ m → (((n -ℤ k) *ℤ m) ≤ℤ ((n +ℤ k) *ℤ m)) × (pos 0 <ℤ m) × (pos 0 <ℤ m)

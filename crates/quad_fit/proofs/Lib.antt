@@ -2,6 +2,14 @@ pub mod Admitted
 pub mod Decided
 pub mod EachThree
 pub mod Ends
+pub mod Exchanges
+pub mod Farthest
+pub mod Heights
+pub mod Intervals
+pub mod LevelCurves
+pub mod LevelSteps
 pub mod MarkLists
+pub mod NewtonForm
+pub mod Ranges
 pub mod Sizes
-pub mod Steps
+pub mod Times

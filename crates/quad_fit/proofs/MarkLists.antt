@@ -1,18 +1,19 @@
 -- The marks of an arc's spots keep their ranges and rise in time.
-use Rattle.std.proofs.Common.{◌≡◌, ℕ, ◌<◌, pos, ◌-ℤ◌, ◌<ℤ◌, List, [], ◌∷◌, length, map, drop, get_or, refl, sym, subst, ap, arith}
+use Rattle.std.proofs.Common.{◌≡◌, ℕ, ◌<◌, ◌-ℤ◌, ◌<ℤ◌, List, [], ◌∷◌, ◌++◌, length, map, get_or, refl, sym, ap, ◌∙◌, arith}
+use Rattle.std.proofs.lemmas.Bool.{cases_order}
 use Rattle.std.proofs.lemmas.Int.{ints}
-use Rattle.std.proofs.lemmas.List.{length-map, get_or-map}
+use Rattle.std.proofs.lemmas.List.{length-map, get_or-map, get_or_default, append-nil}
 use Rattle.std.proofs.lemmas.List.Elements.{All-map}
-use Rattle.std.specs.List.{All}
-use Prim.Native.Nat.{zero, suc}
+use Rattle.std.specs.List.{All, Contains}
+use mathlib.Core.Logic.{inl, inr}
 use Rattle.sky_math.specs.Quadratics.{Point}
 use Rattle.sky_units.specs.declared.axis.Axis.{Axis}
-use Rattle.sky_units.specs.declared.axis.Axis.TheVariants.{Ra, Dec}
-use Rattle.sky_units.proofs.Between.{offset_same}
+use Rattle.sky_units.proofs.Parts.{near_of_arc}
+use Rattle.sky_units.specs.Limits.{arc_ticks}
 use Rattle.sky_units.specs.Arcs.{IsArc, HaveRisingEpochs}
-use Rattle.sky_units.specs.Motion.{offset, point_from, points}
+use Rattle.sky_units.specs.Motion.{point_from, points}
 use Rattle.sky_units.specs.SpotData.{SpotData}
-use Rattle.quad_fit.specs.MarkRanges.{IsMarkPoint, RiseInTime, AreMarks}
+use Rattle.quad_fit.specs.MarkRanges.{IsMarkPoint, RiseInTime, AreShort, AreMarks}
 
 pub mark_at : (axis : Axis) (first : SpotData) (spots : List SpotData) (i : ℕ) (spot : SpotData) → spot ≡ get_or spots i spot → All IsMarkPoint (map (point_from axis first) spots) → i < length (map (point_from axis first) spots) → IsMarkPoint (point_from axis first spot)
 mark_at axis first spots i spot e each h =
@@ -21,26 +22,35 @@ mark_at axis first spots i spot e each h =
     let n : IsMarkPoint (point_from axis first (get_or spots i spot)) = rw (get_or-map (point_from axis first) spots i spot (point_from axis first spot) l) at m in
     rw (← e) at n
 
-first_mark : (axis : Axis) (a : SpotData) → IsMarkPoint (point_from axis a a)
-first_mark axis a =
-    let o : offset axis a a ≡ pos 0 = offset_same axis a in
-    record { not_before = omega (arith, ints); not_after = omega (arith, ints); above = rw o (omega (arith, ints)); below = rw o (omega (arith, ints)) }
+same_spot : (spots : List SpotData) (x y : SpotData) (i j : ℕ) → get_or spots i x ≡ x → j < length spots → get_or spots j y ≡ y → i ≡ j → x ≡ y
+same_spot spots x y i j ex jl ey e = sym ex ∙ ap (λ (n : ℕ). get_or spots n x) e ∙ get_or_default spots j x y jl ∙ ey
 
-near_mark : (axis : Axis) (first : SpotData) (rest : List SpotData) → IsArc (first ∷ rest) → (k : ℕ) (d : SpotData) → k < length rest → IsMarkPoint (point_from axis first (get_or rest k d))
-near_mark Ra first rest arc k d h =
-    let r = arc.rising zero (suc k) d (omega arith) (omega arith) in
-    let s = arc.short zero (suc k) d (omega arith) (omega arith) in
-    let n = arc.spread zero (suc k) d (omega arith) (omega arith) in
-    record { not_before = omega (arith, ints, r); not_after = omega (arith, ints, s); above = n.0.0; below = n.0.1 }
-near_mark Dec first rest arc k d h =
-    let r = arc.rising zero (suc k) d (omega arith) (omega arith) in
-    let s = arc.short zero (suc k) d (omega arith) (omega arith) in
-    let n = arc.spread zero (suc k) d (omega arith) (omega arith) in
-    record { not_before = omega (arith, ints, r); not_after = omega (arith, ints, s); above = n.1.0; below = n.1.1 }
+-- between each two spots of an arc, in either order, less time passes than an arc may last
+within_time : (spots : List SpotData) (x y : SpotData) → IsArc spots → Contains spots x → Contains spots y → (y.epoch -ℤ x.epoch) <ℤ arc_ticks
+within_time spots x y arc cx cy =
+    let i : ℕ = cx.0 in
+    let j : ℕ = cy.0 in
+    let il : i < length spots = cx.1 in
+    let jl : j < length spots = cy.1 in
+    let ex : get_or spots i x ≡ x = cx.2 in
+    let ey : get_or spots j y ≡ y = cy.2 in
+    let ey' : get_or spots j x ≡ y = get_or_default spots j x y jl ∙ ey in
+    elim (cases_order i j) as (λ _. (y.epoch -ℤ x.epoch) <ℤ arc_ticks) [
+      | inl e ↦ let s : x.epoch ≡ y.epoch = ap (λ (u : SpotData). u.epoch) (same_spot spots x y i j ex jl ey e) in omega (arith, ints, s)
+      | inr c ↦ elim c as (λ _. (y.epoch -ℤ x.epoch) <ℤ arc_ticks) [
+        | inl l ↦ let r = arc.short i j x l jl in rw (ex, ey') at r
+        | inr l ↦ let r = arc.rising j i x l il in let s : y.epoch <ℤ x.epoch = rw (ex, ey') at r in omega (arith, ints, s)
+      ]
+    ]
 
-each_mark : (axis : Axis) (first : SpotData) (rest : List SpotData) → IsArc (first ∷ rest) → (k : ℕ) (d : SpotData) → k < length (first ∷ rest) → IsMarkPoint (point_from axis first (get_or (first ∷ rest) k d))
-each_mark axis first rest arc zero d h = first_mark axis first
-each_mark axis first rest arc (suc k) d h = near_mark axis first rest arc k d (omega arith)
+near_mark : (axis : Axis) (base : SpotData) (spots : List SpotData) → IsArc spots → Contains spots base → (k : ℕ) (d : SpotData) → k < length spots → IsMarkPoint (point_from axis base (get_or spots k d))
+near_mark axis base spots arc has k d h =
+    let x : SpotData = get_or spots k d in
+    let cx : Contains spots x = (k, h, get_or_default spots k x d h) in
+    let n = near_of_arc axis spots base x arc has cx in
+    let late = within_time spots base x arc has cx in
+    let early = within_time spots x base arc cx has in
+    record { not_long_before = omega (arith, ints, early); not_long_after = omega (arith, ints, late); above = n.0; below = n.1 }
 
 some_default : (axis : Axis) (first : SpotData) (spots : List SpotData) (i : ℕ) (d : Point) → i < length spots → get_or (map (point_from axis first) spots) i d ≡ point_from axis first (get_or spots i first)
 some_default axis first spots i d h = get_or-map (point_from axis first) spots i first d h
@@ -53,20 +63,34 @@ times_rise axis first spots rising = λ i j d ij jn.
     let li : i < length spots = omega arith in
     rw (some_default axis first spots i d li, some_default axis first spots j d l) t
 
-pub marks_of_arc : (axis : Axis) (first : SpotData) (spots : List SpotData) → spots ≡ first ∷ drop 1 spots → IsArc spots → AreMarks (map (point_from axis first) spots)
-marks_of_arc axis first spots e arc =
-    let arc' : IsArc (first ∷ drop 1 spots) = subst IsArc e arc in
-    record {
-      each = subst (λ (xs : List SpotData). All IsMarkPoint (map (point_from axis first) xs)) (sym e) (All-map IsMarkPoint (point_from axis first) (first ∷ drop 1 spots) (each_mark axis first (drop 1 spots) arc'));
-      rise = times_rise axis first spots arc.rising;
-    }
+marks_short : (axis : Axis) (base : SpotData) (spots : List SpotData) → IsArc spots → AreShort (map (point_from axis base) spots)
+marks_short axis base spots arc = λ i j d ij jn.
+    let l : j < length spots = omega (arith, length-map spots (point_from axis base)) in
+    let r = arc.short i j base ij l in
+    let t : (((get_or spots j base).epoch -ℤ base.epoch) -ℤ ((get_or spots i base).epoch -ℤ base.epoch)) <ℤ arc_ticks = omega (arith, ints, r) in
+    let li : i < length spots = omega arith in
+    rw (some_default axis base spots i d li, some_default axis base spots j d l) t
 
-pub points_are : (axis : Axis) (first : SpotData) (spots : List SpotData) → spots ≡ first ∷ drop 1 spots → points axis spots ≡ map (point_from axis first) spots
-points_are axis first spots e =
-    let there : points axis spots ≡ points axis (first ∷ drop 1 spots) = ap (points axis) e in
-    let back : map (point_from axis first) spots ≡ map (point_from axis first) (first ∷ drop 1 spots) = ap (map (point_from axis first)) e in
-    rw (there, back) refl
+pub marks_of_arc : (axis : Axis) (base : SpotData) (spots : List SpotData) → IsArc spots → Contains spots base → AreMarks (map (point_from axis base) spots)
+marks_of_arc axis base spots arc has = record {
+  each = All-map IsMarkPoint (point_from axis base) spots (near_mark axis base spots arc has);
+  rise = times_rise axis base spots arc.rising;
+  short = marks_short axis base spots arc;
+}
 
-pub first_is : (spots : List SpotData) (first : SpotData) → 0 < length spots → first ≡ get_or spots 0 first → spots ≡ first ∷ drop 1 spots
-first_is [] first h e = absurd (omega arith)
-first_is (s ∷ rest) first h e = ap (λ (u : SpotData). u ∷ rest) (sym e)
+pub points_are : (axis : Axis) (first : SpotData) (spots : List SpotData) → 0 < length spots → first ≡ get_or spots 0 first → points axis spots ≡ map (point_from axis first) spots
+points_are axis first [] h e = absurd (omega arith)
+points_are axis first (s ∷ rest) h e = ap (λ (u : SpotData). map (point_from axis u) (s ∷ rest)) (sym e)
+
+pub first_among : (first : SpotData) (spots : List SpotData) → 0 < length spots → first ≡ get_or spots 0 first → Contains spots first
+first_among first spots h e = (0, h, sym e)
+
+pub points_length : (axis : Axis) (spots : List SpotData) → length (points axis spots) ≡ length spots
+points_length axis [] = refl
+points_length axis (first ∷ rest) = length-map (first ∷ rest) (point_from axis first)
+
+-- the marks of one slice, counted from its first spot
+pub marks_alone : (axis : Axis) (first : SpotData) (spots : List SpotData) (marks : List Point) → 0 < length spots → first ≡ get_or spots 0 first → marks ≡ map (point_from axis first) (spots ++ [] ++ []) → marks ≡ points axis spots
+marks_alone axis first spots marks h e m =
+    let all : spots ++ [] ++ [] ≡ spots = append-nil (spots ++ []) ∙ append-nil spots in
+    m ∙ ap (map (point_from axis first)) all ∙ sym (points_are axis first spots h e)

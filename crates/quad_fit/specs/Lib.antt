@@ -1,4 +1,5 @@
-pub mod Intervals
+pub mod Curves
 pub mod Laws
+pub mod Levels
 pub mod MarkRanges
-pub mod Seen
+pub mod References

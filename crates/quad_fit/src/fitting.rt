@@ -3,10 +3,9 @@ ghost use Rattle.sky_units.specs.Arcs.{IsArc};
 ghost use Rattle.sky_units.specs.Motion.{tolerance, acceleration, AxisAdmits, Fits};
 ghost use Rattle.sky_units.specs.Ranges.{IsBetween};
 
-use crate::intervals::of_acceleration;
+use crate::levelling::level;
 use crate::marks::marks_of;
-use crate::narrowing::narrow;
-use sky_units::{Axis, Settings, Spot, Tally};
+use sky_units::{Axis, Settings, Spot, Tally, joined_len, joined_spot};
 
 /// The tolerance of an axis.
 fn tolerance_of(axis: Axis, settings: &Settings) -> i64
@@ -35,11 +34,13 @@ fn axis_admits(a: &[Spot], b: &[Spot], c: &[Spot], axis: Axis, settings: &Settin
     requires { IsArc (a.now ++ b.now ++ c.now) }
     ensures { IsTrue result ↔ AxisAdmits axis settings.now (a.now ++ b.now ++ c.now) }
 {
-    let limit = of_acceleration(acceleration_of(axis, settings));
-    let Some(marks) = marks_of(a, b, c, axis) else {
+    let acc = acceleration_of(axis, settings);
+    let tol = tolerance_of(axis, settings);
+    if joined_len(a, b, c) < 2 {
         return true;
-    };
-    narrow(&marks, tolerance_of(axis, settings), limit).is_some()
+    }
+    let base = *joined_spot(a, b, c, 0);
+    level(&marks_of(a, b, c, axis, base), acc, tol).is_some()
 }
 
 /// Whether `fits` holds of the spots of three slices, one slice after the other. Each of the slices

@@ -1,20 +1,26 @@
 //! The exact test whether quadratics of a bounded acceleration stay within a tolerance of the spots
 //! of an arc, on both axes of the sky.
 //!
-//! The leading coefficients of the quadratics within the tolerance of three points are those of one
-//! interval. Some quadratic is within the tolerance of all points exactly where the intervals of
-//! all triples, and that of the acceleration, have a coefficient in common.
+//! It is the exchange algorithm of Remez over discrete points, with the tolerance given and the
+//! acceleration sought. A curve is levelled on a reference: on two points a line, on three a
+//! quadratic, that lies exactly the tolerance above and below them by turns, so that no curve
+//! within the tolerance of the reference bends less. The point farthest outside takes the place of
+//! one of the reference, so that the signs still alternate and the new reference asks for more.
+//! The exchange ends where no point is outside, where the curve passes the greatest acceleration,
+//! or where four points alternate so that no quadratic passes them.
 #![tactic(auto)]
 
 pub use fitting::{fits, fits_joined};
 pub use laws::{fit_is_decided, parts_are_admitted, three_suffice};
 pub use range::acc_range;
 
+mod curves;
+mod exchange;
 mod fitting;
-mod intervals;
 mod laws;
+mod levelling;
 mod marks;
-mod narrowing;
 mod range;
+mod references;
 #[cfg(test)]
 mod tests;

@@ -1,15 +1,16 @@
-ghost use Rattle.std.specs.Prelude.{◌≡◌, ◌<◌, ◌++◌, ◌∷◌, [], length, drop, slice_index_or, MatchOption};
+ghost use Rattle.std.specs.Prelude.{◌≡◌, ◌<◌, ◌++◌, length, map, slice_index_or};
+ghost use Rattle.std.specs.List.{Contains};
 ghost use Rattle.sky_units.specs.Arcs.{IsArc};
-ghost use Rattle.sky_units.specs.Motion.{point_from, points};
+ghost use Rattle.sky_units.specs.Motion.{point_from};
 ghost use Rattle.quad_fit.specs.MarkRanges.{IsMarkPoint, AreMarks};
 
 use sky_units::{Axis, Spot, joined_len, joined_spot, offset};
 use std::marker::Model;
 
-/// A spot on one axis: its time and position counted from those of the first spot of its arc.
+/// A spot on one axis: its time and position counted from those of a base, a spot of its arc.
 #[derive(Clone, Copy)]
 pub struct Mark {
-    /// In ticks: from 0 to just under 16,000,000.
+    /// In ticks: less than 30,000,000 either way.
     pub time: i64,
     /// In 10^-6 degree: less than 90,000,000 either way.
     pub position: i64,
@@ -28,14 +29,14 @@ impl Model for Mark {
     ghost inverse = { λ m. record { time = m.time; position = m.position } };
 }
 
-/// The spots of three slices, one slice after the other, on one axis.
+/// The spots of three slices, one slice after the other, on one axis, counted from a base.
 #[derive(Drop)]
 pub struct Marks<'a> {
     a: &'a [Spot],
     b: &'a [Spot],
     c: &'a [Spot],
     axis: Axis,
-    first: Spot,
+    base: Spot,
 }
 
 impl<'a> Model for Marks<'a> {
@@ -46,9 +47,9 @@ impl<'a> Model for Marks<'a> {
 
     ghost Value = { List Point };
 
-    ghost view = { λ m. map (point_from m.axis m.first) (m.a.now ++ m.b.now ++ m.c.now) };
+    ghost view = { λ m. map (point_from m.axis m.base) (m.a.now ++ m.b.now ++ m.c.now) };
 
-    ghost invariant = { λ m. AreMarks (map (point_from m.axis m.first) (m.a.now ++ m.b.now ++ m.c.now)) };
+    ghost invariant = { λ m. AreMarks (map (point_from m.axis m.base) (m.a.now ++ m.b.now ++ m.c.now)) };
 }
 
 impl<'a> Marks<'a> {
@@ -64,36 +65,40 @@ impl<'a> Marks<'a> {
         requires { place < length self.now }
         ensures { result ≡ slice_index_or self.now place result }
     {
-        let first = &self.first;
-        mark_of(self.axis, first, joined_spot(self.a, self.b, self.c, place))
+        let base = &self.base;
+        mark_of(self.axis, base, joined_spot(self.a, self.b, self.c, place))
     }
 }
 
-/// The mark of a spot, counted from the first spot.
-fn mark_of(axis: Axis, first: &Spot, spot: &Spot) -> Mark
-    requires { IsMarkPoint (point_from axis first.now spot.now) }
-    ensures { result ≡ point_from axis first.now spot.now }
+/// The mark of a spot, counted from the base.
+fn mark_of(axis: Axis, base: &Spot, spot: &Spot) -> Mark
+    requires { IsMarkPoint (point_from axis base.now spot.now) }
+    ensures { result ≡ point_from axis base.now spot.now }
 {
     Mark {
-        time: spot.epoch - first.epoch,
-        position: offset(axis, first, spot),
+        time: spot.epoch - base.epoch,
+        position: offset(axis, base, spot),
     }
 }
 
-/// The spots of three slices on one axis, or None where there are none.
-pub fn marks_of<'a>(a: &'a [Spot], b: &'a [Spot], c: &'a [Spot], axis: Axis) -> Option<Marks<'a>>
-    requires { IsArc (a.now ++ b.now ++ c.now) }
-    ensures { MatchOption result (a.now ++ b.now ++ c.now ≡ []) (λ marks. (marks ≡ points axis (a.now ++ b.now ++ c.now)) × AreMarks marks) }
+/// The spots of three slices on one axis, counted from a base among them.
+pub fn marks_of<'a>(
+    a: &'a [Spot],
+    b: &'a [Spot],
+    c: &'a [Spot],
+    axis: Axis,
+    base: Spot,
+) -> Marks<'a>
+    requires arc { IsArc (a.now ++ b.now ++ c.now) }
+    requires base { Contains (a.now ++ b.now ++ c.now) base }
+    ensures value { result ≡ map (point_from axis base) (a.now ++ b.now ++ c.now) }
+    ensures marks { AreMarks result }
 {
-    if joined_len(a, b, c) == 0 {
-        return None;
-    }
-    let first = *joined_spot(a, b, c, 0);
-    Some(Marks {
+    Marks {
         a,
         b,
         c,
         axis,
-        first,
-    })
+        base,
+    }
 }

@@ -11,8 +11,8 @@ use Rattle.miti_text.specs.declared.errors.LineError.{LineError}
 use Rattle.miti_text.specs.declared.errors.LineError.TheVariants.{Byte, NoMemory}
 use Rattle.script_text.specs.Commands.{command_of, alone, one_of, two_of, or_error, ◌>>=◌, IsAnswer}
 use Rattle.script_text.specs.Script.{script_line_of, detection_line}
-use Rattle.script_text.specs.declared.script.Line.{Line}
-use Rattle.script_text.specs.declared.script.Line.TheVariants.{Bad, Set, Window, Tracklets, Report, Stats}
+use Rattle.script_text.specs.declared.lines.Line.{Line}
+use Rattle.script_text.specs.declared.lines.Line.TheVariants.{Bad, Set, Window, Tracklets, Report, Stats}
 use Rattle.script_text.specs.declared.errors.ScriptError.{ScriptError}
 use Rattle.script_text.specs.declared.errors.ScriptError.TheVariants as errors
 

@@ -7,8 +7,8 @@ use Rattle.miti_text.specs.Lines.{detection_of, fields_of}
 use Rattle.miti_text.specs.declared.errors.LineError.TheVariants as causes
 use Rattle.script_text.specs.Commands.{command_of}
 use Rattle.script_text.specs.Script.{script_line_of}
-use Rattle.script_text.specs.declared.script.Line.{Line}
-use Rattle.script_text.specs.declared.script.Line.TheVariants as lines
+use Rattle.script_text.specs.declared.lines.Line.{Line}
+use Rattle.script_text.specs.declared.lines.Line.TheVariants as lines
 use Rattle.script_text.specs.declared.errors.ScriptError.{ScriptError}
 use Rattle.script_text.specs.declared.errors.ScriptError.TheVariants as errors
 

@@ -7,8 +7,8 @@ use Rattle.miti_text.specs.Lines.{is_text, detection_of}
 use Rattle.miti_text.specs.declared.errors.LineError.{LineError}
 use Rattle.miti_text.specs.declared.errors.LineError.TheVariants.{Long, Byte}
 use Rattle.script_text.specs.Commands.{command_of}
-use Rattle.script_text.specs.declared.script.Line.{Line}
-use Rattle.script_text.specs.declared.script.Line.TheVariants.{Blank, Detection, Bad}
+use Rattle.script_text.specs.declared.lines.Line.{Line}
+use Rattle.script_text.specs.declared.lines.Line.TheVariants.{Blank, Detection, Bad}
 use Rattle.script_text.specs.declared.errors.ScriptError.{ScriptError}
 
 -- a detection line, or one that breaks a rule

@@ -1,10 +1,11 @@
+//! The commands of a script.
 ghost use Rattle.std.specs.Prelude.{◌≡◌, ◌==◌, length};
 ghost use Rattle.std.specs.Option.{option_map};
 ghost use Rattle.miti_text.specs.Words.{words};
 ghost use Rattle.miti_text.specs.Numerals.{number_of};
 ghost use Rattle.script_text.specs.Commands.{command_of, set_of, window_of, tracklets_of, alone, one_of, two_of, or_error, IsAnswer};
 ghost use Rattle.script_text.specs.declared.errors.ScriptError.TheVariants as errors;
-ghost use Rattle.script_text.specs.declared.script.Line.TheVariants as lines;
+ghost use Rattle.script_text.specs.declared.lines.Line.TheVariants as lines;
 
 use crate::{Line, ScriptError};
 use miti_text::{next_word, read_number};
@@ -80,6 +81,15 @@ fn number(word: &[u8]) -> Result<i64, ScriptError>
     }
 }
 
+/// The two words of a text; None where it has another number of words.
+fn two_words(text: &[u8]) -> Option<(&[u8], &[u8])>
+    ensures { option_map (λ pair. (pair.0.now, pair.1.now)) result ≡ two_of (words text.now) }
+{
+    let (first, rest) = next_word(text)?;
+    let second = one_word(rest)?;
+    Some((first, second))
+}
+
 /// The one word of a text; None where it has another number of words.
 fn one_word(text: &[u8]) -> Option<&[u8]>
     ensures { option_map (λ word. word.now) result ≡ one_of (words text.now) }
@@ -89,13 +99,4 @@ fn one_word(text: &[u8]) -> Option<&[u8]>
         Some(_) => None,
         None => Some(word),
     }
-}
-
-/// The two words of a text; None where it has another number of words.
-fn two_words(text: &[u8]) -> Option<(&[u8], &[u8])>
-    ensures { option_map (λ pair. (pair.0.now, pair.1.now)) result ≡ two_of (words text.now) }
-{
-    let (first, rest) = next_word(text)?;
-    let second = one_word(rest)?;
-    Some((first, second))
 }

@@ -1,3 +1,4 @@
+//! Why a command line is malformed.
 use std::alloc::AllocError;
 use thiserror::Error;
 

@@ -2,12 +2,12 @@
 #![tactic(auto)]
 
 pub use errors::ScriptError;
+pub use lines::Line;
 pub use reading::read_script_line;
-pub use script::Line;
 
 mod commands;
 mod errors;
+mod lines;
 mod reading;
-mod script;
 #[cfg(test)]
 mod tests;

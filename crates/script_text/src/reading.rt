@@ -1,3 +1,4 @@
+//! Reading a script line.
 ghost use Rattle.std.specs.Prelude.{◌≡◌, ◌==◌, slice_index, Ok};
 ghost use Rattle.std.specs.List.{list_all};
 ghost use Rattle.miti_text.specs.Words.{is_blank};
@@ -5,7 +6,7 @@ ghost use Rattle.miti_text.specs.Lines.{detection_of};
 ghost use Rattle.miti_text.specs.declared.errors.LineError.TheVariants.{NoMemory};
 ghost use Rattle.script_text.specs.Commands.{IsAnswer};
 ghost use Rattle.script_text.specs.Script.{script_line_of, detection_line};
-ghost use Rattle.script_text.specs.declared.script.Line.TheVariants as lines;
+ghost use Rattle.script_text.specs.declared.lines.Line.TheVariants as lines;
 
 use crate::commands::read_command;
 use crate::{Line, ScriptError};

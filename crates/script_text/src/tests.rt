@@ -1,3 +1,4 @@
+//! Lines of each kind.
 use super::*;
 use miti_text::LineError;
 
@@ -14,7 +15,14 @@ fn commands_and_lines(rt: HostRuntime) {
     assert!(rt; matches!(read(b"!tracklets -1"), Ok(Line::Tracklets(-1))));
     assert!(rt; matches!(read(b"!report"), Ok(Line::Report)));
     assert!(rt; matches!(read(b"!stats"), Ok(Line::Stats)));
-    assert!(rt; matches!(read(b"!set tol_ra 5"), Ok(Line::Set(_, 5))));
+    let name = match read(b"!set tol_ra 5") {
+        Ok(Line::Set(name, 5)) => Some(name),
+        _ => None,
+    };
+    assert_eq!(rt;
+        name.as_ref().map(|name| name.bytes()),
+        Some(b"tol_ra".as_slice())
+    );
     assert!(rt;
         matches!(
             read(b"a 59001.25 10 5 20"),

@@ -1,4 +1,5 @@
 pub mod Coefficients
+pub mod Days
 pub mod Greatest
 pub mod Lines
 pub mod Order

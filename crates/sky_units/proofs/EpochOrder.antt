@@ -6,7 +6,8 @@ use Rattle.std.proofs.lemmas.List.{get_or_read}
 use Rattle.std.specs.Int.Signed.{lt_z}
 use borrow.Author.Differences.{true_is_lt}
 use mathlib.Core.Logic.{inl, inr}
-use Rattle.sky_units.specs.Arcs.{HaveRisingEpochs, AreWithinSixteenDays}
+use Rattle.sky_units.specs.Arcs.{HaveRisingEpochs, AreWithinArcTime}
+use Rattle.sky_units.specs.Limits.{arc_ticks}
 use Rattle.sky_units.specs.SpotData.{SpotData}
 
 -- the epochs of the spots below the place n rise
@@ -42,7 +43,7 @@ no_rise spots n before spot p nl eb es step rise =
     let r' : before.epoch <ℤ spot.epoch = rw (← b, ← s) at r in
     absurd (omega (arith, ints, r', step))
 
--- ---- less than sixteen days from the first spot to the last
+-- ---- the time from the first spot to the last
 pub test_of_lt : (a b : ℤ) → a <ℤ b → lt_z a b ≡ true
 test_of_lt a b h = sym (true_is_lt a b (omega (arith, ints, h)))
 
@@ -65,16 +66,16 @@ not_above spots i last e rise h d =
       | inr l ↦ let z : length spots - 1 ≡ i = omega arith in subst (λ (u : ℕ). (get_or spots u d).epoch ≤ℤ last.epoch) z (rw (← f) (omega (arith, ints)))
     ]
 
-pub short_of_ends : (spots : List SpotData) (first last : SpotData) → 0 < length spots → first ≡ get_or spots 0 first → last ≡ get_or spots (length spots - 1) last → HaveRisingEpochs spots → (last.epoch -ℤ first.epoch) <ℤ pos 16000000 → AreWithinSixteenDays spots
+pub short_of_ends : (spots : List SpotData) (first last : SpotData) → 0 < length spots → first ≡ get_or spots 0 first → last ≡ get_or spots (length spots - 1) last → HaveRisingEpochs spots → (last.epoch -ℤ first.epoch) <ℤ arc_ticks → AreWithinArcTime spots
 short_of_ends spots first last p ef el rise h = λ i j d ij jl.
     let a = not_below spots i first ef rise (omega arith) d in
     let b = not_above spots j last el rise jl d in
     omega (arith, ints, a, b, h)
 
-pub ends_of_short : (spots : List SpotData) (first last : SpotData) → 0 < length spots → first ≡ get_or spots 0 first → last ≡ get_or spots (length spots - 1) last → AreWithinSixteenDays spots → (last.epoch -ℤ first.epoch) <ℤ pos 16000000
+pub ends_of_short : (spots : List SpotData) (first last : SpotData) → 0 < length spots → first ≡ get_or spots 0 first → last ≡ get_or spots (length spots - 1) last → AreWithinArcTime spots → (last.epoch -ℤ first.epoch) <ℤ arc_ticks
 ends_of_short spots first last p ef el short =
     let f : first ≡ get_or spots 0 last = get_or_read spots 0 first p ef last in
-    elim (cases_lt 0 (length spots - 1)) as (λ _. (last.epoch -ℤ first.epoch) <ℤ pos 16000000) [
+    elim (cases_lt 0 (length spots - 1)) as (λ _. (last.epoch -ℤ first.epoch) <ℤ arc_ticks) [
       | inl l ↦ let s = short 0 (length spots - 1) last l (omega arith) in rw (← f, ← el) at s
       | inr l ↦
           let z : length spots - 1 ≡ 0 = omega arith in

@@ -1,6 +1,7 @@
--- An arc: spots one after the other in time, over less than sixteen days, near one another on the sky.
+-- An arc: spots one after the other in time, over a bounded time, near one another on the sky.
 use Rattle.std.specs.Prelude.{ℤ, pos, neg_ℤ, ◌-ℤ◌, ◌<ℤ◌, List}
 use Rattle.sky_math.specs.Lists.{EachTwo}
+use Rattle.sky_units.specs.Limits.{arc_ticks}
 use Rattle.sky_units.specs.Motion.{offset}
 use Rattle.sky_units.specs.SpotData.{SpotData}
 use Rattle.sky_units.specs.declared.axis.Axis.{Axis}
@@ -22,13 +23,13 @@ MeetSpreadRule = EachTwo (λ a b. AreNear Ra a b × AreNear Dec a b)
 abbrev pub HaveRisingEpochs : List SpotData → Type 0
 HaveRisingEpochs = EachTwo (λ a b. a.epoch <ℤ b.epoch)
 
--- from the first spot to the last, and so between each two, less than 16,000,000 ticks pass
-abbrev pub AreWithinSixteenDays : List SpotData → Type 0
-AreWithinSixteenDays = EachTwo (λ a b. (b.epoch -ℤ a.epoch) <ℤ pos 16000000)
+-- from the first spot to the last, and so between each two, less time passes than an arc may last
+abbrev pub AreWithinArcTime : List SpotData → Type 0
+AreWithinArcTime = EachTwo (λ a b. (b.epoch -ℤ a.epoch) <ℤ arc_ticks)
 
 pub record IsArc (spots : List SpotData) : Type 0 where
   pub rising : HaveRisingEpochs spots
-  pub short : AreWithinSixteenDays spots
+  pub short : AreWithinArcTime spots
   pub spread : MeetSpreadRule spots
 
 -- each two spots are near on an axis

@@ -2,11 +2,12 @@ pub mod Arcs
 pub mod Coefficients
 pub mod Faults
 pub mod FracData
+pub mod Limits
 pub mod Motion
-pub mod Nights
 pub mod Pairs
 pub mod Ranges
 pub mod SettingNames
+pub mod SettingRanges
 pub mod SettingsData
 pub mod SpotData
 pub mod TrackletData

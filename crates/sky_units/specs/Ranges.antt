@@ -18,10 +18,6 @@ IsRightAscension = IsBetween (pos 0) (pos 359999999)
 abbrev pub IsDeclination : ℤ → Type 0
 IsDeclination = IsBetween (negsuc 89999999) (pos 90000000)
 
--- a night shift: less than a day
-abbrev pub IsNightShift : ℤ → Type 0
-IsNightShift = IsBetween (pos 0) (pos 999999)
-
 -- a time and a position of the sky
 pub record IsSpot (epoch ra dec : ℤ) : Type 0 where
   pub epoch_in_range : IsEpoch epoch

@@ -1,7 +1,8 @@
--- The settings by name: what each may be, and how it is changed.
-use Rattle.std.specs.Prelude.{ℕ, ℤ, pos, Bool, ◌&&◌, nat_eq, Option, Some, None, Result, Ok, Err, List, codes, if◌then◌else◌}
+-- The settings by name, and how one is changed.
+use Rattle.std.specs.Prelude.{ℕ, ℤ, Bool, ◌&&◌, nat_eq, Option, Some, None, Result, Ok, Err, List, codes, if◌then◌else◌}
 use Rattle.std.specs.Cmp.Lexicographic.{pointwise}
 use Rattle.std.specs.Int.Signed.{le_z}
+use Rattle.sky_units.specs.SettingRanges.{lowest, highest}
 use Rattle.sky_units.specs.SettingsData.{SettingsData}
 use Rattle.sky_units.specs.declared.setting_names.Setting.{Setting}
 use Rattle.sky_units.specs.declared.setting_names.Setting.TheVariants.{TolRa, TolDec, AccRa, AccDec, RateRa, RateDec, LineTol, PurgeTol, PairGap, NightShift, Stages}
@@ -26,26 +27,6 @@ setting_named name =
     (if is_text name (codes "pair_gap") then Some PairGap else
     (if is_text name (codes "night_shift") then Some NightShift else
     (if is_text name (codes "stages") then Some Stages else None))))))))))
-
--- the least value of a setting
-abbrev pub lowest : Setting → ℤ
-lowest PairGap = pos 1
-lowest Stages = pos 1
-lowest _ = pos 0
-
--- the greatest value of a setting
-abbrev pub highest : Setting → ℤ
-highest TolRa = pos 100000
-highest TolDec = pos 100000
-highest AccRa = pos 1000000
-highest AccDec = pos 1000000
-highest RateRa = pos 10000000
-highest RateDec = pos 10000000
-highest LineTol = pos 100000
-highest PurgeTol = pos 100000
-highest PairGap = pos 1000000
-highest NightShift = pos 999999
-highest Stages = pos 1
 
 -- the settings with one of them changed
 abbrev pub with_value : Setting → ℤ → SettingsData → SettingsData

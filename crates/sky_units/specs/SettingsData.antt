@@ -1,6 +1,7 @@
 -- The eleven settings, their ranges and their defaults.
 use Rattle.std.specs.Prelude.{ℤ, pos}
-use Rattle.sky_units.specs.Ranges.{IsBetween, IsNightShift}
+use Rattle.sky_units.specs.SettingRanges.{IsInRange}
+use Rattle.sky_units.specs.declared.setting_names.Setting.TheVariants.{TolRa, TolDec, AccRa, AccDec, RateRa, RateDec, LineTol, PurgeTol, PairGap, NightShift, Stages}
 
 pub record SettingsData : Type 0 where
   pub tol_ra : ℤ
@@ -33,17 +34,17 @@ settings_data tol_ra tol_dec acc_ra acc_dec rate_ra rate_dec line_tol purge_tol 
 
 -- each setting lies in its range
 pub record AreSettings (s : SettingsData) : Type 0 where
-  pub tol_ra_in_range : IsBetween (pos 0) (pos 100000) s.tol_ra
-  pub tol_dec_in_range : IsBetween (pos 0) (pos 100000) s.tol_dec
-  pub acc_ra_in_range : IsBetween (pos 0) (pos 1000000) s.acc_ra
-  pub acc_dec_in_range : IsBetween (pos 0) (pos 1000000) s.acc_dec
-  pub rate_ra_in_range : IsBetween (pos 0) (pos 10000000) s.rate_ra
-  pub rate_dec_in_range : IsBetween (pos 0) (pos 10000000) s.rate_dec
-  pub line_tol_in_range : IsBetween (pos 0) (pos 100000) s.line_tol
-  pub purge_tol_in_range : IsBetween (pos 0) (pos 100000) s.purge_tol
-  pub pair_gap_in_range : IsBetween (pos 1) (pos 1000000) s.pair_gap
-  pub night_shift_in_range : IsNightShift s.night_shift
-  pub stages_in_range : IsBetween (pos 1) (pos 1) s.stages
+  pub tol_ra_in_range : IsInRange TolRa s.tol_ra
+  pub tol_dec_in_range : IsInRange TolDec s.tol_dec
+  pub acc_ra_in_range : IsInRange AccRa s.acc_ra
+  pub acc_dec_in_range : IsInRange AccDec s.acc_dec
+  pub rate_ra_in_range : IsInRange RateRa s.rate_ra
+  pub rate_dec_in_range : IsInRange RateDec s.rate_dec
+  pub line_tol_in_range : IsInRange LineTol s.line_tol
+  pub purge_tol_in_range : IsInRange PurgeTol s.purge_tol
+  pub pair_gap_in_range : IsInRange PairGap s.pair_gap
+  pub night_shift_in_range : IsInRange NightShift s.night_shift
+  pub stages_in_range : IsInRange Stages s.stages
 
 -- the settings that hold where nobody sets another
 abbrev pub standard_settings : SettingsData

@@ -1,36 +1,21 @@
+//! The spread rule, and arcs.
 ghost use Rattle.std.specs.Prelude.{◌≡◌, ◌++◌, ◌↔◌, IsTrue, MatchOption};
 ghost use Rattle.std.specs.Int.{int_min, int_max};
-ghost use Rattle.sky_units.specs.Arcs.{IsArc, AreNear, AllNear, HaveRisingEpochs, AreWithinSixteenDays, MeetSpreadRule};
+ghost use Rattle.sky_units.specs.Arcs.{IsArc, AreNear, AllNear, HaveRisingEpochs, AreWithinArcTime, MeetSpreadRule};
 ghost use Rattle.sky_units.specs.Faults.{AreApart, IsFirstFault};
 
 use crate::joined::{joined_len, joined_spot};
+use crate::limits::ARC_TICKS;
 use crate::{Axis, Spot, offset};
 
 /// A quarter of a turn, in 10^-6 degree.
 const QUARTER_TURN: i64 = 90_000_000;
 
-/// Sixteen days, in ticks.
-const SIXTEEN_DAYS: i64 = 16_000_000;
-
-/// Whether two spots are less than a quarter of a turn apart on an axis.
-fn are_near(axis: Axis, a: &Spot, b: &Spot) -> bool
-    ensures { IsTrue result ↔ AreNear axis a.now b.now }
-{
-    let apart = offset(axis, a, b);
-    -QUARTER_TURN < apart && apart < QUARTER_TURN
-}
-
-/// The axis on which two spots are too far apart, right ascension first.
-fn apart_on(a: &Spot, b: &Spot) -> Option<Axis>
-    ensures { MatchOption result (AreNear Axis.Ra a.now b.now × AreNear Axis.Dec a.now b.now) (λ axis. AreApart axis a.now b.now) }
-{
-    if !are_near(Axis::Ra, a, b) {
-        return Some(Axis::Ra);
-    }
-    if !are_near(Axis::Dec, a, b) {
-        return Some(Axis::Dec);
-    }
-    None
+/// The least and the greatest offset of some spots from the first of them, on one axis.
+#[derive(Clone, Copy)]
+struct Reach {
+    low: i64,
+    high: i64,
 }
 
 /// The first two spots, in the order of their places, that break the spread rule: the axis on which
@@ -50,6 +35,25 @@ pub fn spread_fault(spots: &[Spot]) -> Option<(Axis, u32, u32)>
     None
 }
 
+/// Whether the spots are an arc: their epochs rise strictly, fewer than `ARC_TICKS` ticks pass from
+/// the first to the last, and each two are less than a quarter of a turn apart on each axis. No
+/// spots are an arc.
+pub fn is_arc(spots: &[Spot]) -> bool
+    ensures { IsTrue result ↔ IsArc spots.now }
+{
+    is_arc_joined(spots, &[], &[])
+}
+
+/// What `is_arc` says of the spots of three slices, one after the other. Each of them may be empty.
+pub fn is_arc_joined(a: &[Spot], b: &[Spot], c: &[Spot]) -> bool
+    ensures { IsTrue result ↔ IsArc (a.now ++ b.now ++ c.now) }
+{
+    rise(a, b, c)
+        && is_short(a, b, c)
+        && all_near(Axis::Ra, a, b, c)
+        && all_near(Axis::Dec, a, b, c)
+}
+
 /// Whether the epochs of three slices, one after the other, rise.
 pub fn rise(a: &[Spot], b: &[Spot], c: &[Spot]) -> bool
     ensures { IsTrue result ↔ HaveRisingEpochs (a.now ++ b.now ++ c.now) }
@@ -64,22 +68,25 @@ pub fn rise(a: &[Spot], b: &[Spot], c: &[Spot]) -> bool
     true
 }
 
-/// The least and the greatest offset of some spots from the first of them, on one axis.
-#[derive(Clone, Copy)]
-struct Reach {
-    low: i64,
-    high: i64,
+/// The axis on which two spots are too far apart, right ascension first.
+fn apart_on(a: &Spot, b: &Spot) -> Option<Axis>
+    ensures { MatchOption result (AreNear Axis.Ra a.now b.now × AreNear Axis.Dec a.now b.now) (λ axis. AreApart axis a.now b.now) }
+{
+    if !are_near(Axis::Ra, a, b) {
+        return Some(Axis::Ra);
+    }
+    if !are_near(Axis::Dec, a, b) {
+        return Some(Axis::Dec);
+    }
+    None
 }
 
-/// A reach that takes in one more offset.
-fn widened(reach: Reach, place: i64) -> Reach
-    ensures low { result.low ≡ int_min reach.low place }
-    ensures high { result.high ≡ int_max reach.high place }
+/// Whether two spots are less than a quarter of a turn apart on an axis.
+fn are_near(axis: Axis, a: &Spot, b: &Spot) -> bool
+    ensures { IsTrue result ↔ AreNear axis a.now b.now }
 {
-    Reach {
-        low: reach.low.min(place),
-        high: reach.high.max(place),
-    }
+    let apart = offset(axis, a, b);
+    -QUARTER_TURN < apart && apart < QUARTER_TURN
 }
 
 /// Whether each two spots of three slices, one after the other, are near on an axis. The offsets
@@ -103,10 +110,22 @@ fn all_near(axis: Axis, a: &[Spot], b: &[Spot], c: &[Spot]) -> bool
     true
 }
 
-/// Whether less than sixteen days pass from the first spot of three slices, one after the other, to the last.
+/// A reach that takes in one more offset.
+fn widened(reach: Reach, place: i64) -> Reach
+    ensures low { result.low ≡ int_min reach.low place }
+    ensures high { result.high ≡ int_max reach.high place }
+{
+    Reach {
+        low: reach.low.min(place),
+        high: reach.high.max(place),
+    }
+}
+
+/// Whether less time than an arc may last passes from the first spot of three slices, one after the
+/// other, to the last.
 fn is_short(a: &[Spot], b: &[Spot], c: &[Spot]) -> bool
     requires { HaveRisingEpochs (a.now ++ b.now ++ c.now) }
-    ensures { IsTrue result ↔ AreWithinSixteenDays (a.now ++ b.now ++ c.now) }
+    ensures { IsTrue result ↔ AreWithinArcTime (a.now ++ b.now ++ c.now) }
 {
     let len = joined_len(a, b, c);
     if len == 0 {
@@ -114,24 +133,5 @@ fn is_short(a: &[Spot], b: &[Spot], c: &[Spot]) -> bool
     }
     let first = joined_spot(a, b, c, 0);
     let last = joined_spot(a, b, c, len - 1);
-    last.epoch - first.epoch < SIXTEEN_DAYS
-}
-
-/// What `is_arc` says of the spots of three slices, one after the other. Each of them may be empty.
-pub fn is_arc_joined(a: &[Spot], b: &[Spot], c: &[Spot]) -> bool
-    ensures { IsTrue result ↔ IsArc (a.now ++ b.now ++ c.now) }
-{
-    rise(a, b, c)
-        && is_short(a, b, c)
-        && all_near(Axis::Ra, a, b, c)
-        && all_near(Axis::Dec, a, b, c)
-}
-
-/// Whether the spots are an arc: their epochs rise strictly, less than 16,000,000 ticks pass from
-/// the first to the last, and each two are less than a quarter of a turn apart on each axis. No
-/// spots are an arc.
-pub fn is_arc(spots: &[Spot]) -> bool
-    ensures { IsTrue result ↔ IsArc spots.now }
-{
-    is_arc_joined(spots, &[], &[])
+    last.epoch - first.epoch < ARC_TICKS
 }

@@ -1,3 +1,4 @@
+//! Fractions of bounded terms, compared and reduced exactly.
 ghost use Rattle.std.specs.Prelude.{◌≡◌, pos, ◌*ℤ◌, ◌<ℤ◌, SomeIff};
 ghost use Rattle.std.specs.Int.{IsGcd, ◌∣◌};
 ghost use Rattle.std.specs.Int.RustNames.{unsigned_abs};
@@ -34,29 +35,6 @@ const GREATEST_NUMERATOR: i128 = 10_000_000_000_000_000;
 /// What stands below a fraction is at most this.
 const GREATEST_DENOMINATOR: i128 = 10_000_000_000_000_000_000_000;
 
-/// The greatest common divisor of two numbers.
-fn common_divisor(a: u128, b: u128) -> u128
-    ensures { IsGcd a b result }
-{
-    let mut x = a;
-    let mut y = b;
-    while y != 0 {
-        let rest = x % y;
-        x = y;
-        y = rest;
-    }
-    x
-}
-
-/// A number divided by one of its divisors.
-fn quotient(number: i128, divisor: i128) -> i128
-    requires positive { pos 0 <ℤ divisor }
-    requires divides { unsigned_abs divisor ∣ unsigned_abs number }
-    ensures { result *ℤ divisor ≡ number }
-{
-    number / divisor
-}
-
 impl Frac {
     /// The fraction of these numbers. None where `num` is above 10^16 in absolute value, or `den`
     /// isn't from 1 to 10^22.
@@ -91,4 +69,27 @@ impl Frac {
     {
         (self.num * other.den).cmp(&(other.num * self.den))
     }
+}
+
+/// The greatest common divisor of two numbers.
+fn common_divisor(a: u128, b: u128) -> u128
+    ensures { IsGcd a b result }
+{
+    let mut x = a;
+    let mut y = b;
+    while y != 0 {
+        let rest = x % y;
+        x = y;
+        y = rest;
+    }
+    x
+}
+
+/// A number divided by one of its divisors.
+fn quotient(number: i128, divisor: i128) -> i128
+    requires positive { pos 0 <ℤ divisor }
+    requires divides { unsigned_abs divisor ∣ unsigned_abs number }
+    ensures { result *ℤ divisor ≡ number }
+{
+    number / divisor
 }

@@ -1,3 +1,4 @@
+//! Three slices of spots, read as one.
 ghost use Rattle.std.specs.Prelude.{◌≡◌, ◌<◌, ◌++◌, length, slice_index_or};
 
 use crate::Spot;

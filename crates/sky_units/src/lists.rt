@@ -1,3 +1,4 @@
+//! Lists of places.
 ghost use Rattle.std.specs.Prelude.{◌≡◌, ◌++◌, ◌∷◌, [], OnOk, OnErr};
 
 use crate::NoMemory;

@@ -1,6 +1,8 @@
+//! Angles, arcs, tracklets, settings and lists, on plain values.
 use crate::{
-    Axis, Frac, Report, SetError, Settings, Spot, Track, TrackSet, Tracklet, Tracks, Word, Words,
-    is_arc, is_arc_joined, joined_len, joined_spot, offset, spread_fault,
+    Axis, Frac, Groups, Places, Report, SetError, Settings, Spot, Track, TrackSet, Tracklet,
+    Tracks, Word, Words, is_arc, is_arc_joined, joined_len, joined_spot, lift, offset,
+    spread_fault,
 };
 use std::cmp::Ordering;
 use std::test::Fail;
@@ -51,10 +53,10 @@ fn spots_too_far_apart(rt: HostRuntime) {
 }
 
 #[test]
-fn arcs_rise_within_sixteen_days(rt: HostRuntime) {
+fn arcs_rise_within_thirty_days(rt: HostRuntime) {
     let first = [spot(0, 1_000, 0)];
-    let last = [spot(1, 16_000_999, 0)];
-    let late = [spot(2, 16_001_000, 0)];
+    let last = [spot(1, 30_000_999, 0)];
+    let late = [spot(2, 30_001_000, 0)];
     assert!(rt; is_arc(&[]));
     assert!(rt; is_arc_joined(&first, &[], &last));
     assert!(rt; !is_arc_joined(&first, &late, &[]));
@@ -74,6 +76,42 @@ fn tracklets_follow_one_another(rt: HostRuntime) -> Result<(), Fail> {
     assert_eq!(rt; early.spots().len(), 2);
     let set = TrackSet::from_tracklets(vec![in rt.alloc(); early, late]?).ok_or("rising")?;
     assert_eq!(rt; set.tracklets().len(), 2);
+    Ok(())
+}
+
+#[test]
+fn tracklets_that_overlap_in_time(rt: HostRuntime) -> Result<(), Fail> {
+    let first = vec![in rt.alloc(); spot(0, 10, 0), spot(1, 30, 0)]?;
+    let second = vec![in rt.alloc(); spot(2, 30, 0), spot(3, 40, 0)]?;
+    let first = Tracklet::from_spots(first).ok_or("rising")?;
+    let second = Tracklet::from_spots(second).ok_or("rising")?;
+    assert!(rt; TrackSet::from_tracklets(vec![in rt.alloc(); first, second]?).is_none());
+    Ok(())
+}
+
+#[test]
+fn right_ascensions_lifted_over_zero(rt: HostRuntime) {
+    assert_eq!(rt; lift(359_990_000, 10_000), 360_010_000);
+    assert_eq!(rt; lift(10_000, 359_990_000), -10_000);
+    assert_eq!(rt; lift(10_000_000, 20_000_000), 20_000_000);
+    assert_eq!(rt; lift(0, 180_000_000), -180_000_000);
+    assert_eq!(rt; lift(0, 179_999_999), 179_999_999);
+}
+
+#[test]
+fn lists_keep_what_is_pushed(rt: HostRuntime) -> Result<(), Fail> {
+    let mut places = Places::new(rt.alloc());
+    assert_eq!(rt; places.items().len(), 0);
+    places.push(7)?;
+    places.push(0)?;
+    assert_eq!(rt; places.items(), [7, 0].as_slice());
+    let mut groups = Groups::new(rt.alloc());
+    let mut words = Words::new(rt.alloc());
+    words.push(Word::new(rt.alloc(), b"seventeen_bytes_x")?)?;
+    groups.push(words)?;
+    let words = groups.items().first().ok_or("one group")?;
+    let word = words.items().first().ok_or("one word")?;
+    assert_eq!(rt; word.bytes(), b"seventeen_bytes_x".as_slice());
     Ok(())
 }
 

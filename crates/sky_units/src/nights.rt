@@ -1,6 +1,8 @@
+//! The night of an epoch.
 ghost use Rattle.std.specs.Prelude.{◌≡◌};
 ghost use Rattle.sky_math.specs.Night.{night_at};
-ghost use Rattle.sky_units.specs.Ranges.{IsEpoch, IsNightShift};
+ghost use Rattle.sky_units.specs.Ranges.{IsEpoch};
+ghost use Rattle.sky_units.specs.SettingRanges.{IsNightShift};
 
 /// A day, in ticks.
 const TICKS_PER_DAY: i64 = 1_000_000;

@@ -1,3 +1,4 @@
+//! Where a spot lies as seen from another.
 ghost use Rattle.std.specs.Prelude.{◌≡◌, neg_ℤ};
 ghost use Rattle.sky_math.specs.Circle.{half_turn};
 ghost use Rattle.sky_units.specs.Motion.{offset};

@@ -1,3 +1,4 @@
+//! The settings of the linker.
 ghost use Rattle.std.specs.Prelude.{◌≡◌};
 ghost use Rattle.sky_units.specs.SettingsData.{standard_settings};
 

@@ -1,3 +1,4 @@
+//! Tracks and reports as they are told.
 ghost use Rattle.std.specs.Prelude.{◌≡◌, ◌++◌, ◌∷◌, [], OnOk, OnErr};
 
 use crate::{NoMemory, Words};

@@ -1,5 +1,7 @@
+//! Settings by their names, and how one is changed.
 ghost use Rattle.std.specs.Prelude.{◌≡◌, ◌≤ℤ◌, MatchResult, IsOk};
-ghost use Rattle.sky_units.specs.SettingNames.{setting_named, lowest, highest, with_value, set_named};
+ghost use Rattle.sky_units.specs.SettingNames.{setting_named, with_value, set_named};
+ghost use Rattle.sky_units.specs.SettingRanges.{lowest, highest};
 
 use crate::Settings;
 use thiserror::Error;
@@ -32,6 +34,24 @@ enum Setting {
     PairGap,
     NightShift,
     Stages,
+}
+
+impl Settings {
+    /// Changes the setting of this name. `Name` comes where there is none of this name, and
+    /// otherwise `Range` where the value lies outside its range; nothing is changed then.
+    pub fn set(&mut self, name: &[u8], value: i64) -> Result<(), SetError>
+        ensures { MatchResult (set_named name.now value self.old) (λ settings. IsOk result × (self.new ≡ settings)) (λ error. (result ≡ Err error) × (self.new ≡ self.old)) }
+    {
+        let Some(setting) = named(name) else {
+            return Err(SetError::Name);
+        };
+        let (low, high) = range(setting);
+        if value < low || value > high {
+            return Err(SetError::Range);
+        }
+        change(self, setting, value);
+        Ok(())
+    }
 }
 
 /// The setting of a name.
@@ -98,23 +118,5 @@ fn change(settings: &mut Settings, setting: Setting, value: i64)
         Setting::PairGap => settings.pair_gap = value,
         Setting::NightShift => settings.night_shift = value,
         Setting::Stages => settings.stages = value,
-    }
-}
-
-impl Settings {
-    /// Changes the setting of this name. `Name` comes where there is none of this name, and
-    /// otherwise `Range` where the value lies outside its range; nothing is changed then.
-    pub fn set(&mut self, name: &[u8], value: i64) -> Result<(), SetError>
-        ensures { MatchResult (set_named name.now value self.old) (λ settings. IsOk result × (self.new ≡ settings)) (λ error. (result ≡ Err error) × (self.new ≡ self.old)) }
-    {
-        let Some(setting) = named(name) else {
-            return Err(SetError::Name);
-        };
-        let (low, high) = range(setting);
-        if value < low || value > high {
-            return Err(SetError::Range);
-        }
-        change(self, setting, value);
-        Ok(())
     }
 }

@@ -1,3 +1,4 @@
+//! Tracklets, and sets of them.
 ghost use Rattle.std.specs.Prelude.{◌≡◌, ◌++◌, ◌↔◌, IsTrue, SomeIff};
 ghost use Rattle.sky_units.specs.Arcs.{HaveRisingEpochs};
 ghost use Rattle.sky_units.specs.TrackletData.{IsTracklet, IsTrackSet};
@@ -35,6 +36,14 @@ impl Tracklet {
         Some(Tracklet { spots })
     }
 
+    /// The tracklet of these spots, which are two or more, of strictly rising epochs.
+    pub fn of_rising(spots: Vec<Spot>) -> Tracklet
+        requires { IsTracklet spots.items }
+        ensures { result ≡ spots.items }
+    {
+        Tracklet { spots }
+    }
+
     /// The spots, in order of epoch.
     pub fn spots(&self) -> &[Spot]
         ensures value { result.now ≡ self.now }
@@ -60,6 +69,36 @@ impl Model for TrackSet {
     ghost view = { λ s. s.tracklets.items };
 
     ghost invariant = { λ s. IsTrackSet s.tracklets.items };
+}
+
+impl TrackSet {
+    /// The set of these tracklets. None where the epochs of their spots, one tracklet after the
+    /// other, don't rise strictly.
+    pub fn from_tracklets(list: Vec<Tracklet>) -> Option<TrackSet>
+        ensures { SomeIff result (IsTrackSet list.items) list.items }
+    {
+        if !follow(list.as_slice()) {
+            return None;
+        }
+        Some(TrackSet { tracklets: list })
+    }
+
+    /// The set of these tracklets. The epochs of their spots, one tracklet after the other, rise
+    /// strictly.
+    pub fn of_rising(list: Vec<Tracklet>) -> TrackSet
+        requires { IsTrackSet list.items }
+        ensures { result ≡ list.items }
+    {
+        TrackSet { tracklets: list }
+    }
+
+    /// The tracklets, in order of epoch.
+    pub fn tracklets(&self) -> &[Tracklet]
+        ensures value { result.now ≡ self.now }
+        ensures set { IsTrackSet self.now }
+    {
+        self.tracklets.as_slice()
+    }
 }
 
 /// Whether each tracklet begins after the one before it ended.
@@ -88,25 +127,4 @@ fn rise_across(before: &[Spot], after: &[Spot]) -> bool
     let last = &before[before.len() - 1];
     let first = &after[0];
     last.epoch < first.epoch
-}
-
-impl TrackSet {
-    /// The set of these tracklets. None where the epochs of their spots, one tracklet after the
-    /// other, don't rise strictly.
-    pub fn from_tracklets(list: Vec<Tracklet>) -> Option<TrackSet>
-        ensures { SomeIff result (IsTrackSet list.items) list.items }
-    {
-        if !follow(list.as_slice()) {
-            return None;
-        }
-        Some(TrackSet { tracklets: list })
-    }
-
-    /// The tracklets, in order of epoch.
-    pub fn tracklets(&self) -> &[Tracklet]
-        ensures value { result.now ≡ self.now }
-        ensures set { IsTrackSet self.now }
-    {
-        self.tracklets.as_slice()
-    }
 }

@@ -3,7 +3,7 @@
 //! Each reply is one or more lines, each ended by a line feed, with one space between words.
 #![tactic(auto)]
 
-pub use replies::{Reply, write_reply};
+pub use replies::{Reply, append_reply, write_reply};
 pub use reports::write_report;
 
 mod names;

@@ -65,26 +65,29 @@ pub fn write_reply(alloc: Global, reply: &Reply) -> Result<Vec<u8>, NoMemory>
     ensures { IfOk result (λ text. text.items ≡ text_of reply.now) }
 {
     let mut text = Vec::new(alloc);
-    match reply {
-        Reply::Line(number, error) => {
-            write_refused_line(&mut text, *number, line_error_name(*error))?
-        }
-        Reply::Script(number, error) => {
-            write_refused_line(&mut text, *number, script_error_name(*error))?
-        }
-        Reply::Added(epoch, site, count) => write_added(&mut text, *epoch, site, *count)?,
-        Reply::Refused(epoch, site, error, id) => {
-            write_refused(&mut text, *epoch, site, *error, id)?
-        }
-        Reply::Set(name, value) => write_set(&mut text, name, *value)?,
-        Reply::SetRefused(error) => write_set_refused(&mut text, *error)?,
-        Reply::Window(lo, hi) => write_window(&mut text, *lo, *hi)?,
-        Reply::WindowRefused(error) => write_window_refused(&mut text, *error)?,
-        Reply::Tracklets(night, tracklets) => write_tracklets(&mut text, *night, tracklets)?,
-        Reply::Report(report) => write_report_lines(&mut text, report)?,
-        Reply::Stats(stats) => write_stats(&mut text, stats)?,
-    }
+    append_reply(&mut text, reply)?;
     Ok(text)
+}
+
+/// Adds the text of a reply. Where memory is wanting a front of it may have been added.
+pub fn append_reply(text: &mut Vec<u8>, reply: &Reply) -> Result<(), NoMemory>
+    ensures { OnOk result (text.new.items ≡ text.old.items ++ text_of reply.now) }
+{
+    match reply {
+        Reply::Line(number, error) => { write_refused_line(text, *number, line_error_name(*error)) }
+        Reply::Script(number, error) => {
+            write_refused_line(text, *number, script_error_name(*error))
+        }
+        Reply::Added(epoch, site, count) => write_added(text, *epoch, site, *count),
+        Reply::Refused(epoch, site, error, id) => { write_refused(text, *epoch, site, *error, id) }
+        Reply::Set(name, value) => write_set(text, name, *value),
+        Reply::SetRefused(error) => write_set_refused(text, *error),
+        Reply::Window(lo, hi) => write_window(text, *lo, *hi),
+        Reply::WindowRefused(error) => write_window_refused(text, *error),
+        Reply::Tracklets(night, tracklets) => write_tracklets(text, *night, tracklets),
+        Reply::Report(report) => write_report_lines(text, report),
+        Reply::Stats(stats) => write_stats(text, stats),
+    }
 }
 
 /// Adds the line of a refused line.

@@ -1,3 +1,4 @@
+//! The text of each reply.
 use super::*;
 use exposure_log::{AddError, WindowError};
 use miti_text::LineError;

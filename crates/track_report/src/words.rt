@@ -6,15 +6,6 @@ ghost use Rattle.track_report.specs.Words.{line, spaced};
 use itoa::{Buffer, Integer};
 use sky_units::{NoMemory, Words};
 
-/// Adds a word behind a space.
-pub fn write_word(text: &mut Vec<u8>, word: &[u8]) -> Result<(), NoMemory>
-    ensures { OnOk result (text.new.items ≡ text.old.items ++ spaced word.now) }
-{
-    text.push(b' ')?;
-    text.extend_from_slice(word)?;
-    Ok(())
-}
-
 /// Adds a number, in decimal, behind a space.
 pub fn write_number<I: Integer>(text: &mut Vec<u8>, number: I) -> Result<(), NoMemory>
     ensures { OnOk result (text.new.items ≡ text.old.items ++ spaced (I.text number)) }
@@ -40,5 +31,14 @@ fn write_rest(text: &mut Vec<u8>, words: &Words) -> Result<(), NoMemory>
         write_word(text, word.bytes())?;
     }
     text.push(b'\n')?;
+    Ok(())
+}
+
+/// Adds a word behind a space.
+pub fn write_word(text: &mut Vec<u8>, word: &[u8]) -> Result<(), NoMemory>
+    ensures { OnOk result (text.new.items ≡ text.old.items ++ spaced word.now) }
+{
+    text.push(b' ')?;
+    text.extend_from_slice(word)?;
     Ok(())
 }

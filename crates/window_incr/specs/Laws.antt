@@ -1,34 +1,40 @@
 -- Laws over the definitions alone.
-use Rattle.std.specs.Prelude.{◌≡◌, map}
+use Rattle.std.specs.Prelude.{◌≡◌, ◌↔◌, map}
+use Rattle.std.specs.List.{Contains}
+use Rattle.miti_text.specs.Observation.{Observation}
 use Rattle.sky_units.specs.declared.reports.Report.{Report}
 use Rattle.sky_units.specs.declared.statistics.Stats.{Stats}
-use Rattle.exposure_log.specs.Held.{detections_of}
-use Rattle.window_incr.specs.LinkerState.{LinkerData}
+use Rattle.exposure_log.specs.Held.{LogData, detections_of}
+use Rattle.window_incr.specs.LinkerState.{LinkerState}
 use Rattle.window_incr.specs.Answers.{IsReport, AreStats}
-use Rattle.window_incr.specs.Orderly.{IsSoundLinker}
+use Rattle.window_incr.specs.Soundness.{IsSoundState}
 
--- a linker has one report
-abbrev pub ReportsAgree : Type 0
-ReportsAgree = (l : LinkerData) (one other : Report) → IsReport l one → IsReport l other → one ≡ other
+-- a state has one report
+abbrev pub ReportIsUnique : Type 0
+ReportIsUnique = (s : LinkerState) (one other : Report) → IsReport s one → IsReport s other → one ≡ other
 
--- two linkers hold the same: settings, window and detections, whatever numbers these have
-pub record HoldTheSame (l m : LinkerData) : Type 0 where
-  pub settings : l.settings ≡ m.settings
-  pub window : l.log.window ≡ m.log.window
-  pub detections : map (λ d. d.1) (detections_of l.log.exposures) ≡ map (λ d. d.1) (detections_of m.log.exposures)
+-- a detection is held
+abbrev pub IsHeldIn : LogData → Observation → Type 0
+IsHeldIn log d = Contains (map (λ e. e.1) (detections_of log.exposures)) d
 
--- linkers that hold the same have the same report, in whatever order they came by it
-abbrev pub ReportsFollow : Type 0
-ReportsFollow = (l m : LinkerData) (one other : Report) → HoldTheSame l m → IsReport l one → IsReport m other → one ≡ other
+-- two states hold the same: settings, window and detections, whatever numbers these have
+pub record HoldTheSame (s t : LinkerState) : Type 0 where
+  pub settings : s.settings ≡ t.settings
+  pub window : s.log.window ≡ t.log.window
+  pub detections : (d : Observation) → IsHeldIn s.log d ↔ IsHeldIn t.log d
 
--- a linker has one answer to what its statistics are
-abbrev pub StatsAgree : Type 0
-StatsAgree = (l : LinkerData) (one other : Stats) → AreStats l one → AreStats l other → one ≡ other
+-- states that hold the same have the same report, in whatever order they came by it
+abbrev pub ReportFollows : Type 0
+ReportFollows = (s t : LinkerState) (one other : Report) → IsSoundState s → IsSoundState t → HoldTheSame s t → IsReport s one → IsReport t other → one ≡ other
 
--- each linker has a report
-abbrev pub SomeReport : Type 0
-SomeReport = (l : LinkerData) → IsSoundLinker l → (report : Report) × IsReport l report
+-- a state has one answer to what its statistics are
+abbrev pub StatsAreUnique : Type 0
+StatsAreUnique = (s : LinkerState) (one other : Stats) → AreStats s one → AreStats s other → one ≡ other
+
+-- each sound state has a report
+abbrev pub ReportExists : Type 0
+ReportExists = (s : LinkerState) → IsSoundState s → (report : Report) × IsReport s report
 
 -- and statistics
-abbrev pub SomeStats : Type 0
-SomeStats = (l : LinkerData) → IsSoundLinker l → (stats : Stats) × AreStats l stats
+abbrev pub StatsExist : Type 0
+StatsExist = (s : LinkerState) → IsSoundState s → (stats : Stats) × AreStats s stats

@@ -1,6 +1,6 @@
 pub mod LinkerState
-pub mod Ranks
-pub mod Orderly
-pub mod Rankings
+pub mod KeptNights
 pub mod Answers
+pub mod ValidReports
+pub mod Soundness
 pub mod Laws

@@ -1,72 +1,53 @@
 //! Tracklets and tracks as they are answered: by the ids of their detections.
 ghost use Rattle.std.specs.Prelude.{◌≡◌, ◌<◌, ◌^◌, ◌++◌, OnOk, IfOk, length, map};
 ghost use Rattle.std.specs.List.{All};
-ghost use Rattle.window_incr.specs.Answers.{track_of as track_of_set};
-ghost use Rattle.window_incr.specs.Ranks.{ids_of, ids_by_number};
-ghost use Rattle.window_incr.specs.Rankings.{IsRankingOf};
+ghost use Rattle.window_incr.specs.Answers.{track_of as track_of_set, ids_of, id_of_number};
 
-use crate::ranking::{Ranking, id_of};
 use exposure_log::ExposureLog;
-use sky_units::{Groups, NoMemory, Spot, Track, TrackSet, Tracklet, Tracks, Words};
+use sky_units::{Groups, NoMemory, Spot, Track, TrackSet, Tracklet, Tracks, Word, Words};
 use std::alloc::Global;
 
-/// Adds the ids of some spots.
-fn push_ids(
-    ids: &mut Words,
-    alloc: Global,
-    log: &ExposureLog,
-    ranking: &Ranking,
-    spots: &[Spot],
-) -> Result<(), NoMemory>
-    requires { IsRankingOf log.now ranking.now }
-    ensures { OnOk result (ids.new ≡ ids.old ++ ids_of log.now spots.now) }
-{
-    for spot in spots {
-        ids.push(ranking.id_at(alloc, log, spot.num)?)?;
-    }
-    Ok(())
-}
-
-/// The ids of each of some tracklets, whose spots are labelled by the log's numbers.
+/// The ids of each of some tracklets.
 pub(crate) fn groups_of(
     alloc: Global,
     log: &ExposureLog,
     tracklets: &[Tracklet],
 ) -> Result<Groups, NoMemory>
-    ensures { IfOk result (λ groups. groups ≡ map (ids_by_number log.now) tracklets.now) }
+    ensures { IfOk result (λ groups. groups ≡ map (ids_of log.now) tracklets.now) }
 {
     let mut groups = Groups::new(alloc);
     for tracklet in tracklets {
-        groups.push(words_of(alloc, log, tracklet.spots())?)?;
+        let mut ids = Words::new(alloc);
+        push_ids(&mut ids, alloc, log, tracklet.spots())?;
+        groups.push(ids)?;
     }
     Ok(groups)
 }
 
-/// The ids of some spots, which are labelled by the log's numbers.
-fn words_of(alloc: Global, log: &ExposureLog, spots: &[Spot]) -> Result<Words, NoMemory>
-    ensures { IfOk result (λ ids. ids ≡ ids_by_number log.now spots.now) }
+/// Each of some sets of tracklets as a track.
+pub(crate) fn tracks_of(
+    alloc: Global,
+    log: &ExposureLog,
+    sets: &[TrackSet],
+) -> Result<Tracks, NoMemory>
+    requires few { All (λ set. length set < 2 ^ 32) sets.now }
+    ensures { IfOk result (λ tracks. tracks ≡ map (track_of_set log.now) sets.now) }
 {
-    let mut ids = Words::new(alloc);
-    for spot in spots {
-        ids.push(id_of(alloc, log, spot.num)?)?;
+    let mut tracks = Tracks::new(alloc);
+    for set in sets {
+        tracks.push(track_of(alloc, log, set)?)?;
     }
-    Ok(ids)
+    Ok(tracks)
 }
 
 /// A set of tracklets as a track.
-fn track_of(
-    alloc: Global,
-    log: &ExposureLog,
-    ranking: &Ranking,
-    set: &TrackSet,
-) -> Result<Track, NoMemory>
-    requires ranking { IsRankingOf log.now ranking.now }
+fn track_of(alloc: Global, log: &ExposureLog, set: &TrackSet) -> Result<Track, NoMemory>
     requires few { length set.now < 2 ^ 32 }
     ensures { IfOk result (λ track. track ≡ track_of_set log.now set.now) }
 {
     let mut ids = Words::new(alloc);
     for tracklet in set.tracklets() {
-        push_ids(&mut ids, alloc, log, ranking, tracklet.spots())?;
+        push_ids(&mut ids, alloc, log, tracklet.spots())?;
     }
     Ok(Track {
         nights: set.tracklets().len() as u32,
@@ -74,20 +55,27 @@ fn track_of(
     })
 }
 
-/// Each of some sets of tracklets as a track.
-pub(crate) fn tracks_of(
+/// Adds the ids of some spots.
+fn push_ids(
+    ids: &mut Words,
     alloc: Global,
     log: &ExposureLog,
-    ranking: &Ranking,
-    sets: &[TrackSet],
-) -> Result<Tracks, NoMemory>
-    requires ranking { IsRankingOf log.now ranking.now }
-    requires few { All (λ set. length set < 2 ^ 32) sets.now }
-    ensures { IfOk result (λ tracks. tracks ≡ map (track_of_set log.now) sets.now) }
+    spots: &[Spot],
+) -> Result<(), NoMemory>
+    ensures { OnOk result (ids.new ≡ ids.old ++ ids_of log.now spots.now) }
 {
-    let mut tracks = Tracks::new(alloc);
-    for set in sets {
-        tracks.push(track_of(alloc, log, ranking, set)?)?;
+    for spot in spots {
+        ids.push(id_of(alloc, log, spot.num)?)?;
     }
-    Ok(tracks)
+    Ok(())
+}
+
+/// The id of the held detection of a number. It is empty where there is none.
+fn id_of(alloc: Global, log: &ExposureLog, number: u32) -> Result<Word, NoMemory>
+    ensures { IfOk result (λ id. id ≡ id_of_number log.now number) }
+{
+    match log.detection(number) {
+        Some(detection) => detection.id.clone(),
+        None => Word::new(alloc, &[]),
+    }
 }

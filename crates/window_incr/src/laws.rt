@@ -1,35 +1,33 @@
 //! Laws over the definitions alone: each is the contract of a function that does nothing else.
-ghost use Rattle.window_incr.specs.Laws.{ReportsAgree, ReportsFollow, SomeReport, SomeStats, StatsAgree};
+ghost use Rattle.window_incr.specs.Laws.{ReportExists, ReportFollows, ReportIsUnique, StatsAreUnique, StatsExist};
 
-use plain_tracks::some_report_list;
+use plain_tracks::maximal_tracks_exist;
 
-/// A linker has one report.
-pub fn reports_agree()
-    ensures { ReportsAgree }
+/// A state has one report.
+pub fn report_is_unique()
+    ensures { ReportIsUnique }
 {}
 
-/// Linkers that hold the same have the same report, in whatever order they came by it.
-pub fn reports_follow()
-    ensures { ReportsFollow }
-{
-    reports_agree();
-}
-
-/// A linker has one answer to what its statistics are.
-pub fn stats_agree()
-    ensures { StatsAgree }
+/// States that hold the same have the same report, in whatever order they came by it.
+pub fn report_follows()
+    ensures { ReportFollows }
 {}
 
-/// Each linker has a report.
-pub fn some_report()
-    ensures { SomeReport }
+/// A state has one answer to what its statistics are.
+pub fn stats_are_unique()
+    ensures { StatsAreUnique }
+{}
+
+/// Each sound state has a report.
+pub fn report_exists()
+    ensures { ReportExists }
 {
-    some_report_list();
+    maximal_tracks_exist();
 }
 
-/// Each linker has statistics.
-pub fn some_stats()
-    ensures { SomeStats }
+/// Each sound state has statistics.
+pub fn stats_exist()
+    ensures { StatsExist }
 {
-    some_report_list();
+    maximal_tracks_exist();
 }

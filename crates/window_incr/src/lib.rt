@@ -1,13 +1,15 @@
-//! The linker of a window of nights: it holds exposures, and answers with the tracklets of a night,
-//! the report of all maximal tracks, and statistics. All are computed when they are asked for.
+//! The linker of a window of nights: it holds exposures, keeps a night with its tracklets for each
+//! night with held exposures, and answers with the tracklets of a night, the report of all maximal
+//! tracks, and statistics.
 #![tactic(auto)]
 
-pub use laws::{reports_agree, reports_follow, some_report, some_stats, stats_agree};
+pub use laws::{report_exists, report_follows, report_is_unique, stats_are_unique, stats_exist};
 pub use state::Linker;
 
 mod answers;
+mod keeping;
 mod laws;
-mod ranking;
+mod listing;
 mod state;
 #[cfg(test)]
 mod tests;

@@ -1,22 +1,29 @@
 //! The linker's state and its calls.
-ghost use Rattle.std.specs.Prelude.{◌≡◌, ◌≢◌, ◌<ℤ◌, ◌≤◌, ◌^◌, pos, neg_ℤ, None, Some, Ok, Err, [], length, map, sum_by, IfOk, IfErr, OnOk, OnErr};
+ghost use Rattle.std.specs.Prelude.{◌≡◌, ◌≢◌, ◌≤◌, pos, None, Some, Ok, Err, [], length, map, IfOk, IfErr, OnOk, OnErr};
+ghost use Rattle.std.specs.List.{sum_by};
+ghost use Rattle.sky_units.specs.Limits.{most_nights, IsNear};
 ghost use Rattle.sky_units.specs.SettingNames.{set_named};
-ghost use Rattle.exposure_log.specs.Held.{Adds, Answers, refusal, window_refusal, moved};
+ghost use Rattle.exposure_log.specs.Held.{TakesIn, IsAnsweredAs, refusal, window_refusal, moved};
+ghost use Rattle.exposure_log.specs.HandedBack.{IsHandedBack};
 ghost use Rattle.exposure_log.specs.declared.errors.AddError.TheVariants.{NoMemory as no_memory};
-ghost use Rattle.window_incr.specs.LinkerState.{LinkerData, after_setting};
+ghost use Rattle.night_tree.specs.Nights.{tracklets_of_each};
 ghost use Rattle.window_incr.specs.Answers.{tracklet_ids, IsReport, AreStats};
+ghost use Rattle.window_incr.specs.KeptNights.{nights_of};
+ghost use Rattle.window_incr.specs.LinkerState.{LinkerData, after_setting};
+ghost use Rattle.window_incr.specs.Soundness.{IsSoundLinker};
+ghost use Rattle.window_incr.specs.ValidReports.{IsValidReport};
 
 use crate::answers::{groups_of, tracks_of};
-use crate::ranking::Ranking;
-use exposure_log::{AddError, Exposure, ExposureLog, WindowError};
-use plain_nights::{nights, report, tracklets};
-use plain_tracks::report_list;
-use sky_units::{Groups, NoMemory, Report, SetError, Settings, Stats, Tally, Tracklet, Tracks};
+use crate::keeping::{forget_before, night_of_number, renew_or_remove};
+use crate::listing::listed;
+use exposure_log::{AddError, Exposure, ExposureLog, NotHeld, WindowError};
+use night_tree::Night;
+use sky_units::{Groups, NoMemory, Report, SetError, Settings, Stats, Tally, Word};
 use std::alloc::Global;
 use std::marker::Model;
 
 /// The settings and the held exposures of a window of nights, which are linked into tracklets and
-/// tracks.
+/// tracks. The tracklets of each night with held exposures are kept.
 ///
 /// A call that answers an error changes nothing.
 #[derive(Drop)]
@@ -24,62 +31,62 @@ pub struct Linker {
     alloc: Global,
     settings: Settings,
     log: ExposureLog,
+    nights: Vec<Night>,
 }
 
 impl Model for Linker {
-    ghost use Rattle.std.specs.Prelude.{◌≡◌};
+    ghost use Rattle.std.specs.Prelude.{◌≡◌, IfSome};
+    ghost use Rattle.sky_units.specs.Limits.{IsNear};
     ghost use Rattle.window_incr.specs.LinkerState.{LinkerData};
-    ghost use Rattle.window_incr.specs.Orderly.{IsOrderly};
+    ghost use Rattle.window_incr.specs.KeptNights.{nights_of};
 
     ghost Value = { LinkerData };
 
-    ghost view = { λ l. record { settings = l.settings; log = l.log } };
+    ghost view = { λ l. record { state = record { settings = l.settings; log = l.log }; nights = l.nights.items } };
 
-    ghost invariant = { λ l. (l.log.night_shift ≡ l.settings.night_shift) × IsOrderly l.log };
-}
-
-/// The settings with the one of this name changed, or why it can't be.
-fn changed(settings: &Settings, name: &[u8], value: i64) -> Result<Settings, SetError>
-    ensures { result ≡ set_named name.now value settings.now }
-{
-    let mut changed = *settings;
-    changed.set(name, value)?;
-    Ok(changed)
-}
-
-/// The number of tracklets of all of some nights, of which there are at most sixteen.
-fn tracklet_count(nights: &[Vec<Tracklet>]) -> u64
-    requires { length nights.now ≤ 16 }
-    ensures { result ≡ sum_by length (map (λ night. night.items) nights.now) }
-{
-    let mut count = 0;
-    for night in nights {
-        // A slice has fewer than 2^63 bytes, which keeps the lengths of sixteen of them below 2^63.
-        count += night.as_slice().len() as u64;
-    }
-    count
+    ghost invariant = { λ l. (l.log.night_shift ≡ l.settings.night_shift) × IfSome l.log.window IsNear × (l.nights.items ≡ nights_of (record { settings = l.settings; log = l.log })) };
 }
 
 impl Linker {
     /// A linker under these settings, with no window and nothing held.
     pub fn new(alloc: Global, settings: Settings) -> Result<Linker, NoMemory>
-        ensures { IfOk result (λ l. l ≡ record { settings = settings; log = record { night_shift = settings.night_shift; window = None; exposures = [] } }) }
+        ensures { IfOk result (λ l. l ≡ record { state = record { settings = settings; log = record { night_shift = settings.night_shift; window = None; exposures = [] } }; nights = [] }) }
     {
         let log = ExposureLog::new(alloc, settings.night_shift)?;
         Ok(Linker {
             alloc,
             settings,
             log,
+            nights: Vec::new(alloc),
         })
+    }
+
+    /// The settings.
+    pub fn settings(&self) -> &Settings
+        ensures value { result.now ≡ self.now.state.settings }
+        ensures sound { IsSoundLinker self.now }
+    {
+        let _ = self.log.window();
+        &self.settings
+    }
+
+    /// The nights with held exposures, in order of time, each with exactly the tracklets of its held
+    /// detections (the definition `nights_of`).
+    pub fn nights(&self) -> &[Night]
+        ensures value { result.now ≡ self.now.nights }
+        ensures kept { self.now.nights ≡ nights_of self.now.state }
+    {
+        self.nights.as_slice()
     }
 
     /// Changes the setting of this name. `Name` comes where there is none of this name, otherwise
     /// `Range` where the value lies outside its range, otherwise `Late` where a window was set. This
     /// takes no memory.
     pub fn set(&mut self, name: &[u8], value: i64) -> Result<(), SetError>
-        ensures ok { OnOk result (after_setting name.now value self.old ≡ Ok self.new) }
-        ensures cause { IfErr result (λ error. after_setting name.now value self.old ≡ Err error) }
+        ensures ok { OnOk result (after_setting name.now value self.old.state ≡ Ok self.new.state) }
+        ensures cause { IfErr result (λ error. after_setting name.now value self.old.state ≡ Err error) }
         ensures err { OnErr result (self.new ≡ self.old) }
+        ensures kept { self.new.nights ≡ nights_of self.new.state }
     {
         let settings = changed(&self.settings, name, value)?;
         if let Some(_window) = self.log.window() {
@@ -91,87 +98,149 @@ impl Linker {
     }
 
     /// Holds an exposure from now on, and gives the number of its detections. The causes of a
-    /// refusal are those of the log. No fit test is made.
+    /// refusal are those of the log. The night of the exposure is built anew, and no other. No fit
+    /// test is made.
     pub fn add(&mut self, exposure: &Exposure, tally: &mut Tally) -> Result<u32, AddError>
-        ensures ok { IfOk result (λ count. (refusal self.old.log exposure.now ≡ None) × (count ≡ length exposure.now.detections) × Adds self.old.log self.new.log exposure.now × (self.new.settings ≡ self.old.settings)) }
-        ensures cause { IfErr result (λ error. error ≢ no_memory → refusal self.old.log exposure.now ≡ Some error) }
+        ensures ok { IfOk result (λ count. (refusal self.old.state.log exposure.now ≡ None) × (count ≡ length exposure.now.detections) × TakesIn self.old.state.log self.new.state.log exposure.now × (self.new.state.settings ≡ self.old.state.settings)) }
+        ensures cause { IfErr result (λ error. error ≢ no_memory → refusal self.old.state.log exposure.now ≡ Some error) }
         ensures err { OnErr result (self.new ≡ self.old) }
+        ensures kept { self.new.nights ≡ nights_of self.new.state }
         ensures tally { tally.new ≡ tally.old }
     {
-        self.log.add(exposure)
+        let _ = self.log.window();
+        let count = self.log.add(exposure)?;
+        let alloc = self.alloc;
+        let settings = self.settings;
+        let epoch = exposure.epoch();
+        let site = exposure.site();
+        renew_or_remove(
+            &mut self.nights,
+            &mut self.log,
+            alloc,
+            &settings,
+            epoch,
+            site,
+        )?;
+        Ok(count)
+    }
+
+    /// Holds an exposure from now on, as `add` does, but the exposure itself and no copy of it. One
+    /// that is refused comes back whole.
+    pub fn hold(&mut self, exposure: Exposure, tally: &mut Tally) -> Result<u32, NotHeld>
+        ensures ok { IfOk result (λ count. (refusal self.old.state.log exposure ≡ None) × (count ≡ length exposure.detections) × TakesIn self.old.state.log self.new.state.log exposure × (self.new.state.settings ≡ self.old.state.settings)) }
+        ensures cause { IfErr result (λ error. IsHandedBack self.old.state.log exposure error) }
+        ensures err { OnErr result (self.new ≡ self.old) }
+        ensures kept { self.new.nights ≡ nights_of self.new.state }
+        ensures tally { tally.new ≡ tally.old }
+    {
+        let _ = self.log.window();
+        let alloc = self.alloc;
+        let settings = self.settings;
+        let epoch = exposure.epoch();
+        let Ok(site) = Word::new(alloc, exposure.site()) else {
+            return Err(NotHeld::NoMemory);
+        };
+        let count = self.log.hold(exposure)?;
+        match renew_or_remove(
+            &mut self.nights,
+            &mut self.log,
+            alloc,
+            &settings,
+            epoch,
+            site.bytes(),
+        ) {
+            Ok(()) => Ok(count),
+            Err(_) => Err(NotHeld::NoMemory),
+        }
     }
 
     /// Sets the window to these nights, and forgets the nights before it. The causes of a refusal
     /// are those of the log; `NoMemory` never comes. No fit test is made.
     pub fn set_window(&mut self, lo: i64, hi: i64, tally: &mut Tally) -> Result<(), WindowError>
-        requires lo_from { neg_ℤ (pos (10 ^ 18)) <ℤ lo }
-        requires lo_to { lo <ℤ pos (10 ^ 18) }
-        requires hi_from { neg_ℤ (pos (10 ^ 18)) <ℤ hi }
-        requires hi_to { hi <ℤ pos (10 ^ 18) }
-        ensures answer { Answers (window_refusal self.old.log.window lo hi) result }
-        ensures ok { OnOk result (self.new ≡ record self.old { log = moved self.old.log lo hi }) }
+        requires { IsNear (lo, hi) }
+        ensures answer { IsAnsweredAs (window_refusal self.old.state.log.window lo hi) result }
+        ensures ok { OnOk result (self.new.state ≡ record self.old.state { log = moved self.old.state.log lo hi }) }
         ensures err { OnErr result (self.new ≡ self.old) }
+        ensures kept { self.new.nights ≡ nights_of self.new.state }
         ensures tally { tally.new ≡ tally.old }
     {
+        let _ = self.log.window();
         self.log.check_window(lo, hi)?;
         self.log.move_window(lo, hi);
+        forget_before(&mut self.nights, lo);
         Ok(())
     }
 
-    /// The window, and the maximal tracks of the held detections in canonical order. The fit tests
-    /// that are made aren't counted.
+    /// The window, and the maximal tracks of the held detections in canonical order (the definition
+    /// `IsReport`). The report is valid: each track has three or more nights, and no more than a
+    /// window, with two or more ids for each. The fit tests that are made aren't counted.
     pub fn report(&self, tally: &mut Tally) -> Result<Report, NoMemory>
-        ensures report { IfOk result (λ report. IsReport self.now report) }
+        ensures report { IfOk result (λ report. IsReport self.now.state report) }
+        ensures valid { IfOk result (λ report. IsValidReport report) }
         ensures tally { tally.new ≡ tally.old }
     {
-        let Some(window) = self.log.window() else {
-            return Ok(Report {
-                window: None,
-                tracks: Tracks::new(self.alloc),
-            });
-        };
-        let ranking = Ranking::of(self.alloc, &self.log)?;
-        let list = report(self.alloc, ranking.spots(), window, &self.settings)?;
-        let tracks = tracks_of(self.alloc, &self.log, &ranking, list.as_slice())?;
-        Ok(Report {
-            window: Some(window),
-            tracks,
-        })
+        let window = self.log.window();
+        let list = listed(
+            self.alloc,
+            &self.log,
+            self.nights.as_slice(),
+            &self.settings,
+        )?;
+        let tracks = tracks_of(self.alloc, &self.log, list.as_slice())?;
+        Ok(Report { window, tracks })
     }
 
-    /// The ids of each tracklet of a night, in the order of the tracklets.
+    /// The ids of each tracklet of a night, in the order of the tracklets. There are none for a
+    /// night without held exposures.
     pub fn tracklets(&self, night: i64) -> Result<Groups, NoMemory>
-        ensures { IfOk result (λ groups. groups ≡ tracklet_ids self.now night) }
+        ensures { IfOk result (λ groups. groups ≡ tracklet_ids self.now.state night) }
     {
-        let spots = self.log.night(night)?;
-        let found = tracklets(self.alloc, spots.as_slice(), night, &self.settings)?;
-        groups_of(self.alloc, &self.log, found.as_slice())
+        let _ = self.log.window();
+        match night_of_number(self.nights.as_slice(), night) {
+            Some(kept) => groups_of(self.alloc, &self.log, kept.tracklets()),
+            None => Ok(Groups::new(self.alloc)),
+        }
     }
 
     /// The numbers of held exposures and detections, of the tracklets of all nights, and of the
     /// report's tracks.
     pub fn stats(&self) -> Result<Stats, NoMemory>
-        ensures { IfOk result (λ stats. AreStats self.now stats) }
+        ensures { IfOk result (λ stats. AreStats self.now.state stats) }
     {
-        let exposures = self.log.exposures();
-        let detections = self.log.detections();
-        let Some(window) = self.log.window() else {
-            return Ok(Stats {
-                exposures,
-                detections,
-                tracklets: 0,
-                tracks: 0,
-            });
-        };
-        let ranking = Ranking::of(self.alloc, &self.log)?;
-        let nights = nights(self.alloc, ranking.spots(), window, &self.settings)?;
-        let mut tally = Tally::zero();
-        let list = report_list(self.alloc, nights.as_slice(), &self.settings, &mut tally)?;
+        let _ = self.log.window();
+        let list = listed(
+            self.alloc,
+            &self.log,
+            self.nights.as_slice(),
+            &self.settings,
+        )?;
         Ok(Stats {
-            exposures,
-            detections,
-            tracklets: tracklet_count(nights.as_slice()),
+            exposures: self.log.exposures(),
+            detections: self.log.detections(),
+            tracklets: tracklet_count(self.nights.as_slice()),
             tracks: list.len() as u64,
         })
     }
+}
+
+/// The settings with the one of this name changed, or why it can't be.
+fn changed(settings: &Settings, name: &[u8], value: i64) -> Result<Settings, SetError>
+    ensures { result ≡ set_named name.now value settings.now }
+{
+    let mut changed = *settings;
+    changed.set(name, value)?;
+    Ok(changed)
+}
+
+/// The number of tracklets of all of some nights, of which there are no more than a window has.
+fn tracklet_count(nights: &[Night]) -> u64
+    requires { length nights.now ≤ most_nights }
+    ensures { result ≡ sum_by length (tracklets_of_each nights.now) }
+{
+    let mut count = 0;
+    for night in nights {
+        // A slice has fewer than 2^63 bytes, which keeps the lengths of thirty of them below 2^64.
+        count += night.tracklets().len() as u64;
+    }
+    count
 }

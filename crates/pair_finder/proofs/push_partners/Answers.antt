@@ -1,17 +1,17 @@
-use Rattle.std.proofs.Common.{ℕ, List, Bool, append_assoc, ◌≡◌, ◌<◌, ◌+◌, ◌-ℤ◌, ◌<ℤ◌, length, ◌++◌, arith, ap, refl, cond, [], ◌∷◌}
+use Rattle.std.proofs.Common.{ℕ, List, Bool, append_assoc, ◌≡◌, ◌<◌, ◌-ℤ◌, ◌<ℤ◌, length, ◌++◌, arith, ap, refl, cond, [], ◌∷◌}
 use Rattle.std.proofs.lemmas.List.{append-nil}
 use Rattle.std.proofs.lemmas.Int.{ints}
 use Rattle.sky_units.specs.SpotData.{SpotData}
 use Rattle.sky_units.specs.SettingsData.{SettingsData}
 use Rattle.sky_units.specs.Pairs.{are_pair, are_pair_at}
-use Rattle.pair_finder.proofs.Rows.{row, nothing_so_far, one_more, rest_is_empty, at_read, read_is, none_before, none_beyond}
+use Rattle.pair_finder.proofs.Rows.{row, nothing_so_far, one_more, rest_is_empty, at_read, read_is, none_beyond, none_passed}
 use Rattle.pair_finder.proofs.push_partners.Goals as goal
 use Rattle.pair_finder.proofs.push_partners.Goals.{then-are_pair+in_ok-push, else-are_pair}
 
 pub loop-second-init : goal.loop-second-init
 loop-second-init c =
-    let none = nothing_so_far (are_pair_at c.args.settings.now c.args.spots.now) c.args.first (c.args.first + 1)
-    (λ j h. none_before c.args.settings.now c.args.spots.now c.args.first j c.index-spots-first.result c.requires.order c.requires.within h) in
+    let none = nothing_so_far (are_pair_at c.args.settings.now c.args.spots.now) c.args.first c.args.later
+    (λ j h. none_passed c.args.settings.now c.args.spots.now c.args.first c.args.later j c.index-spots-first.result c.requires.within c.requires.bound (c.requires.passed c.index-spots-first.result) h) in
     rw (none, append-nil) refl
 
 -- one step, with the test's answer `t`
@@ -36,12 +36,12 @@ returns-after-loop-second c =
     let end : c.loop-second.second ≡ length c.args.spots.now = omega arith in
     rw (← end) c.loop-second.invariant
 
-pub returns-then-later-earlier : goal.returns-then-later-earlier
-returns-then-later-earlier c =
+pub returns-then-other-earlier : goal.returns-then-other-earlier
+returns-then-other-earlier c =
     let inside : c.loop-second.second < length c.args.spots.now = omega arith in
     let first = read_is c.args.spots.now c.args.first c.index-spots-first.result c.index-spots-first.result c.requires.within c.index-spots-first.is in
     let second = read_is c.args.spots.now c.loop-second.second c.index-spots-second.result c.index-spots-first.result inside c.index-spots-second.is in
-    let e : c.later.inside.epoch ≡ c.index-spots-second.result.epoch = ap (λ (s : SpotData). s.epoch) c.later.view_is in
+    let e : c.other.inside.epoch ≡ c.index-spots-second.result.epoch = ap (λ (s : SpotData). s.epoch) c.other.view_is in
     let f : c.earlier.inside.epoch ≡ c.index-spots-first.result.epoch = ap (λ (s : SpotData). s.epoch) c.earlier.view_is in
     let g : c.settings.inside.pair_gap ≡ c.args.settings.now.pair_gap = ap (λ (s : SettingsData). s.pair_gap) c.settings.view_is in
     let gap : c.args.settings.now.pair_gap <ℤ (c.index-spots-second.result.epoch -ℤ c.index-spots-first.result.epoch) = omega (arith, ints) in

@@ -1,4 +1,4 @@
-use Rattle.std.proofs.Common.{◌≡◌, ◌≢◌, ℕ, ◌+◌, ◌-◌, ◌<◌, ◌≤◌, length, get_or, arith, ap, ◌∙◌, sym, Some, List, false, inl, inr, refl, Option, None}
+use Rattle.std.proofs.Common.{◌≡◌, ◌≢◌, ℕ, ◌+◌, ◌-◌, ◌<◌, ◌≤◌, length, get_or, arith, ap, ◌∙◌, sym, Some, List, false, inl, inr, refl, Option, None, take, subst, IsTrue}
 use Rattle.std.specs.Option.{is_some}
 use Rattle.std.proofs.lemmas.Option.{slice_get_read, get_or_from_slice_get}
 use Rattle.std.specs.declared.cmp.Ordering.{Ordering}
@@ -8,9 +8,11 @@ use Rattle.std.specs.Cmp.Lexicographic.{slice_cmp, bytes_decides}
 use Rattle.std.proofs.lemmas.Cmp.{nat_list_cmp_total}
 use Rattle.std.proofs.lemmas.Map.Lookups.{exact_bytes}
 use Rattle.std.proofs.lemmas.Bool.{cases_eq, true≢false}
-use Rattle.miti_text.specs.Observation.{Observation}
-use Rattle.exposure_log.specs.Numbering.{slot}
-use Rattle.exposure_log.specs.Groups.{NoneTaken, IsFirstTaken, IsFresh, IsApart}
+use Rattle.std.proofs.lemmas.List.Elements.{All-more}
+use Rattle.std.specs.List.{All}
+use Rattle.miti_text.specs.Observation.{Observation, is_id}
+use Rattle.number_register.specs.Numbering.{slot}
+use Rattle.exposure_log.specs.Numbered.{NoneTaken, IsFirstTaken, IsFresh, IsApart}
 use Rattle.exposure_log.specs.Exposures.{IdsDontFall}
 use Rattle.exposure_log.proofs.log.first_taken.Goals as goal
 use Rattle.exposure_log.proofs.log.first_taken.Goals.{then-place-gt0+else-eq, else-place-gt0}
@@ -61,6 +63,12 @@ is_none : (o : Option ℕ) → false ≡ is_some o → o ≡ None
 is_none None h = refl
 is_none (Some n) h = cc
 
+-- the id of one place more
+ids_more : (ds : Ds) (i : ℕ) (item : Observation) (id : List ℕ) → i < length ds → item ≡ get_or ds i item → id ≡ item.id → IsTrue (is_id id)
+    → All (λ d. IsTrue (is_id d.id)) (take i ds) → All (λ d. IsTrue (is_id d.id)) (take (i + 1) ds)
+ids_more ds i item id h is same rule ids =
+    All-more (λ (d : Observation). IsTrue (is_id d.id)) ds i item h ids (subst (λ w. IsTrue (is_id w)) (same ∙ sym (id_at ds i item item h is)) rule)
+
 no_earlier : (ds : Ds) (i : ℕ) → i ≤ 0 → IsApart ds i
 no_earlier ds i h j e lt = absurd (omega (arith, h, lt))
 
@@ -79,7 +87,7 @@ returns-then-eq-clause-some c = λ j e.
         λ d. id_at c.args.detections.now (c.loop-place.place - 1) c.index-detections-place-then-place-gt0.result d before c.index-detections-place-then-place-gt0.is
             ∙ (sym first ∙ (same ∙ (second ∙ sym (id_at c.args.detections.now c.loop-place.place c.index-detections-place.result d l c.index-detections-place.is)))),
       );
-      earlier = c.loop-place.invariant;
+      earlier = c.loop-place.invariant.untaken;
     }
 
 pub loop-place-preserved : goal.loop-place-preserved
@@ -89,7 +97,7 @@ loop-place-preserved c =
     let none = is_none c.find.result c.if-is_some.ensures in
     let fresh : IsFresh (slot c.args.register.now) c.args.detections.now c.loop-place.place =
     λ n d e held same. c.find.ensures.none none n d held (same ∙ (id_at c.args.detections.now c.loop-place.place c.index-detections-place.result e l c.index-detections-place.is ∙ (sym second ∙ sym c.bytes.ensures))) in
-    none_more (slot c.args.register.now) c.args.detections.now c.loop-place.place c.loop-place.invariant fresh
+    let untaken = none_more (slot c.args.register.now) c.args.detections.now c.loop-place.place c.loop-place.invariant.untaken fresh
     (elim c.if-place-gt0.branch [
       | then-place-gt0+else-eq w ↦
           let before : c.loop-place.place - 1 < length c.args.detections.now = omega arith in
@@ -100,4 +108,8 @@ loop-place-preserved c =
           ∙ (same ∙ (id_at c.args.detections.now c.loop-place.place c.index-detections-place.result e l c.index-detections-place.is ∙ sym second))) in
           true≢false (sym ((bytes_decides w.earlier.inside.id c.detection.inside.id).1 ids) ∙ sym w.if-eq.ensures))
       | else-place-gt0 w ↦ no_earlier c.args.detections.now c.loop-place.place w.if-place-gt0.false
-    ])
+    ]) in
+    record {
+      untaken = untaken;
+      ids = ids_more c.args.detections.now c.loop-place.place c.index-detections-place.result c.detection.inside.id l c.index-detections-place.is second c.detection.invariant.id c.loop-place.invariant.ids;
+    }

@@ -1,12 +1,12 @@
 use Rattle.std.proofs.Common.{◌≡◌, sym, ◌∙◌, ap, Some, true, arith, to_z, of_z, w64}
 use Rattle.std.specs.Option.{is_some}
 use Rattle.std.proofs.lemmas.Int.{ints}
-use Rattle.exposure_log.specs.NightGroups.{list_of}
+use Rattle.exposure_log.specs.Nights.{list_of}
 use Rattle.exposure_log.proofs.NightEdits.{same_insert, under_insert, no_list}
 use Rattle.exposure_log.proofs.nights.add_night.Goals as goal
 
-pub returns-in_ok-insert-clause-groups : goal.returns-in_ok-insert-clause-groups
-returns-in_ok-insert-clause-groups c =
+pub returns-in_ok-insert-clause-listed : goal.returns-in_ok-insert-clause-listed
+returns-in_ok-insert-clause-listed c =
     let missing = no_list (list_of c.args.by_night.now.entries (to_z w64 (of_z w64 c.args.night))) (sym c.if-not-contains_key.true ∙ c.contains_key.ensures) in
     rw c.in_ok-insert.ensures.entries (same_insert (to_z w64 (of_z w64 c.args.night)) c.args.by_night.now.entries c.new.result c.new.ensures.items missing)
 

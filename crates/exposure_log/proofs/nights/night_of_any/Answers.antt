@@ -2,7 +2,7 @@ use Rattle.std.proofs.Common.{◌≡◌, ◌∙◌, ap, arith, to_z, of_z, ◌+�
 use mir.Syntax.{w64, w128}
 use Rattle.std.proofs.lemmas.Int.{ints}
 use Rattle.sky_math.specs.Night.{night_at}
-use Rattle.exposure_log.proofs.NightOrder.{day_of}
+use Rattle.sky_math.proofs.Days.{day_of}
 use Rattle.exposure_log.proofs.nights.night_of_any.Goals as goal
 
 pub returns : goal.returns

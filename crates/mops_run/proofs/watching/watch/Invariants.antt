@@ -7,7 +7,7 @@ use Rattle.mops_run.proofs.watching.watch.Given as goal
 abbrev pub invariant-loop-line : goal.invariant-loop-line
 invariant-loop-line g l =
     SoFar (g.I.Source.supply l.initial.source) l.reader (g.I.Source.supply l.source) (g.O.Sink.receipt l.initial.sink) (g.O.Sink.receipt l.sink) l.line
-    (state_of l.linker l.waiting.items) l.refused × (l.tally ≡ l.initial.tally)
+    (state_of l.linker.state l.waiting.items) l.refused × (l.tally ≡ l.initial.tally)
 
 abbrev pub decreases-loop-line : goal.decreases-loop-line
 decreases-loop-line g l = 2 ^ 32 - used l.reader

@@ -1,25 +1,28 @@
-use Rattle.std.proofs.Common.{◌≡◌, pos, ◌*ℤ◌, ◌≤ℤ◌, to_z, of_z, w64, [], ◌∙◌, refl, rules}
-use Rattle.std.proofs.lemmas.Int.{to_z-of_z}
-use Rattle.sky_math.specs.Lists.{EachThree}
-use Rattle.sky_math.specs.Quadratics.{IsWithin, Admits}
-use Rattle.sky_math.specs.Triples.{Suits}
-use Rattle.sky_units.specs.Motion.{tolerance, acceleration}
-use Rattle.quad_fit.specs.Intervals.{HoldsExactly, IsNarrowed}
-use Rattle.quad_fit.proofs.Admitted.{admitted_exactly, none_admitted}
+use Rattle.std.proofs.Common.{◌≡◌, ◌++◌, List, to_z, of_z, w64, refl, sym, ◌∙◌, arith}
+use Rattle.std.proofs.lemmas.Int.{ints, to_z-of_z}
+use Rattle.sky_units.specs.Motion.{acceleration, tolerance, points}
+use Rattle.sky_units.specs.SpotData.{SpotData}
+use Rattle.quad_fit.proofs.Admitted.{few_admitted, level_told}
+use Rattle.quad_fit.proofs.MarkLists.{points_are, points_length}
 use Rattle.quad_fit.proofs.fitting.axis_admits.Goals as goal
 
-pub returns-in_default : goal.returns-in_default
-returns-in_default c =
-    let acc : pos 0 ≤ℤ acceleration c.args.axis c.args.settings.now = rw (← c.acceleration_of.ensures.value) c.acceleration_of.ensures.range.from in
-    let none : Admits (acceleration c.args.axis c.args.settings.now) (tolerance c.args.axis c.args.settings.now) [] = none_admitted (acceleration c.args.axis c.args.settings.now) (tolerance c.args.axis c.args.settings.now) acc in
-    rw c.in_default.ensures (λ h. none, λ h. refl)
+pub returns-then-joined_len-lt2 : goal.returns-then-joined_len-lt2
+returns-then-joined_len-lt2 c =
+    let spots : List SpotData = c.args.a.now ++ c.args.b.now ++ c.args.c.now in
+    let acc = c.acceleration_of-acc.ensures in
+    let tol = c.tolerance_of-tol.ensures in
+    let most = acc.range in
+    let room = tol.range in
+    let few = points_length c.args.axis spots in
+    let one = few_admitted c.acceleration_of-acc.result c.tolerance_of-tol.result (points c.args.axis spots) most.from room.from (omega arith) in
+    (λ h. rw (acc.value, tol.value) at one, λ w. refl)
 
 pub returns : goal.returns
 returns c =
-    let acc : to_z w64 (of_z w64 c.acceleration_of.result) ≡ acceleration c.args.axis c.args.settings.now = to_z-of_z w64 c.acceleration_of.result (search rules) ∙ c.acceleration_of.ensures.value in
-    let tol : to_z w64 (of_z w64 c.tolerance_of.result) ≡ tolerance c.args.axis c.args.settings.now = to_z-of_z w64 c.tolerance_of.result (search rules) ∙ c.tolerance_of.ensures.value in
-    let low : pos 0 ≤ℤ tolerance c.args.axis c.args.settings.now = rw (← c.tolerance_of.ensures.value) c.tolerance_of.ensures.range.from in
-    let exact : HoldsExactly (λ a b. IsWithin (acceleration c.args.axis c.args.settings.now *ℤ b) (pos 2000000000000 *ℤ a)) c.of_acceleration-limit.result = rw acc at c.of_acceleration-limit.ensures.exact in
-    let narrowed : IsNarrowed c.of_acceleration-limit.result (λ a b. EachThree (Suits (tolerance c.args.axis c.args.settings.now) a b) c.in-Some.marks) c.narrow.result = rw tol at c.narrow.ensures in
-    let marks = c.in-Some.ensures in
-    rw (c.is_some.ensures, ← marks.0) (admitted_exactly (acceleration c.args.axis c.args.settings.now) (tolerance c.args.axis c.args.settings.now) c.in-Some.marks c.of_acceleration-limit.result c.narrow.result low marks.1.rise exact narrowed)
+    let spots : List SpotData = c.args.a.now ++ c.args.b.now ++ c.args.c.now in
+    let most = c.acceleration_of-acc.ensures.range in
+    let room = c.tolerance_of-tol.ensures.range in
+    let acc : to_z w64 (of_z w64 c.acceleration_of-acc.result) ≡ acceleration c.args.axis c.args.settings.now = to_z-of_z w64 c.acceleration_of-acc.result (omega (arith, ints, most)) ∙ c.acceleration_of-acc.ensures.value in
+    let tol : to_z w64 (of_z w64 c.tolerance_of-tol.result) ≡ tolerance c.args.axis c.args.settings.now = to_z-of_z w64 c.tolerance_of-tol.result (omega (arith, ints, room)) ∙ c.tolerance_of-tol.ensures.value in
+    let seen : c.marks_of.result ≡ points c.args.axis spots = c.marks_of.ensures.value ∙ sym (points_are c.args.axis c.joined_spot-base.result.now spots (omega arith) c.joined_spot-base.ensures) in
+    rw c.is_some.ensures (level_told (acceleration c.args.axis c.args.settings.now) (tolerance c.args.axis c.args.settings.now) (points c.args.axis spots) c.level.result (rw (acc, tol, seen) at c.level.ensures))

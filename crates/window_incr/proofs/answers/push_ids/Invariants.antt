@@ -1,5 +1,5 @@
 use Rattle.std.proofs.Common.{◌≡◌, ◌++◌, take}
-use Rattle.window_incr.specs.Ranks.{ids_of}
+use Rattle.window_incr.specs.Answers.{ids_of}
 use Rattle.window_incr.proofs.answers.push_ids.Given as goal
 
 abbrev pub invariant-loop-spot : goal.invariant-loop-spot

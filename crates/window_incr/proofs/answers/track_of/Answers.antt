@@ -1,6 +1,6 @@
 use Rattle.std.proofs.Common.{◌≡◌, take, ◌∙◌}
 use Rattle.sky_units.specs.TrackletData.{spots_of}
-use Rattle.window_incr.specs.Ranks.{ids_of}
+use Rattle.window_incr.specs.Answers.{ids_of}
 use Rattle.window_incr.proofs.Steps.{ids_one_more}
 use Rattle.window_incr.proofs.answers.track_of.Goals as goal
 

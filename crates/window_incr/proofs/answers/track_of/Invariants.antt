@@ -1,6 +1,6 @@
 use Rattle.std.proofs.Common.{◌≡◌, take}
 use Rattle.sky_units.specs.TrackletData.{spots_of}
-use Rattle.window_incr.specs.Ranks.{ids_of}
+use Rattle.window_incr.specs.Answers.{ids_of}
 use Rattle.window_incr.proofs.answers.track_of.Given as goal
 
 abbrev pub invariant-loop-tracklet : goal.invariant-loop-tracklet

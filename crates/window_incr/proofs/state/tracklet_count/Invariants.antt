@@ -1,10 +1,10 @@
-use Rattle.std.proofs.Common.{◌≡◌, ◌*◌, ◌^◌, ◌≤◌, List, length, map, take}
+use Rattle.std.proofs.Common.{◌≡◌, ◌*◌, ◌^◌, ◌≤◌, length, take}
 use Rattle.std.specs.List.{sum_by}
-use Rattle.sky_units.specs.SpotData.{SpotData}
+use Rattle.night_tree.specs.Nights.{tracklets_of_each}
 use Rattle.window_incr.proofs.state.tracklet_count.Given as goal
 
 abbrev pub invariant-loop-night : goal.invariant-loop-night
 invariant-loop-night l = record {
-  count : l.count ≡ sum_by (λ (night : List (List SpotData)). length night) (take l.night-index (map (λ night. night.items) l.nights));
+  count : l.count ≡ sum_by length (take l.night-index (tracklets_of_each l.nights));
   small : l.count ≤ l.night-index * 2 ^ 59;
 }

@@ -1,39 +1,38 @@
-use Rattle.std.proofs.Common.{◌≡◌, Less, refl, sym, ◌∙◌, to_z, of_z, w64, arith, length}
+use Rattle.std.proofs.Common.{◌≡◌, Less, refl, sym, to_z, of_z, w64, arith, length}
 use Rattle.std.specs.List.{filter}
 use Rattle.std.proofs.lemmas.Int.{ints}
 use Rattle.std.proofs.lemmas.List.Kept.{AllPairs-filter}
-use Rattle.exposure_log.specs.declared.groups.Group.{Group}
-use Rattle.exposure_log.specs.Groups.{NoneTaken, group_cmp}
-use Rattle.exposure_log.specs.NightGroups.{groups_of, is_of_night}
-use Rattle.exposure_log.specs.Numbering.{slot}
+use Rattle.exposure_log.specs.declared.numbered.NumberedExposure.{NumberedExposure}
+use Rattle.exposure_log.specs.Numbered.{NoneTaken, numbered_cmp}
+use Rattle.exposure_log.specs.Nights.{listed_of, is_of_night}
+use Rattle.number_register.specs.Numbering.{slot}
 use Rattle.exposure_log.proofs.AtPlace.{none_at_place}
 use Rattle.exposure_log.proofs.FreePlace.{among_exposures_of_night}
 use Rattle.exposure_log.proofs.Refusing.{place_is_held_in_night, no_taken, taken_first}
-use Rattle.exposure_log.proofs.HeldList.{held_is}
 use Rattle.exposure_log.proofs.Removing.{is_not_there}
 use Rattle.exposure_log.proofs.log.ExposureLog.place_in_window.Goals as goal
 
 pub search-requires : goal.search-requires
-search-requires c = rw c.of_night.ensures (AllPairs-filter (λ (g h : Group). group_cmp h.epoch h.site g ≡ Less) _ _ c.self.invariant.1.in_order)
+search-requires c = rw c.of_night.ensures (AllPairs-filter (λ (g h : NumberedExposure). numbered_cmp h.epoch h.site g ≡ Less) _ _ c.self.invariant.1.in_order)
 
 pub returns-in_default-clause-cause : goal.returns-in_default-clause-cause
 returns-in_default-clause-cause c =
     let e : to_z w64 (of_z w64 c.epoch-epoch.result) ≡ c.args.exposure.now.epoch = omega (arith, ints, c.epoch-epoch.ensures.value) in
     let n : to_z w64 (of_z w64 c.args.night) ≡ c.args.night = omega (arith, ints) in
     let night = rw (← c.self.view_is) at c.requires in
-    let here : c.of_night.result.now ≡ filter (is_of_night c.self.inside.nights.shift c.args.night) (groups_of c.self.inside.nights) = rw n at c.of_night.ensures in
+    let here : c.of_night.result.now ≡ filter (is_of_night c.self.inside.nights.shift c.args.night) (listed_of c.self.inside.nights) = rw n at c.of_night.ensures in
     let found = rw (here, e, c.site.ensures) at c.in_default.ensures.found in
-    rw (← c.self.view_is, place_is_held_in_night c.self.inside.register (groups_of c.self.inside.nights) (is_of_night c.self.inside.nights.shift c.args.night) c.args.exposure.now.epoch c.args.exposure.now.site c.in_default.field-0 found) refl
+    rw (← c.self.view_is, place_is_held_in_night c.self.inside.register (listed_of c.self.inside.nights) (is_of_night c.self.inside.nights.shift c.args.night) c.args.exposure.now.epoch c.args.exposure.now.site c.in_default.field-0 found) refl
 
 pub returns-in-Some-clause-cause : goal.returns-in-Some-clause-cause
 returns-in-Some-clause-cause c =
     let e : to_z w64 (of_z w64 c.epoch-epoch.result) ≡ c.args.exposure.now.epoch = omega (arith, ints, c.epoch-epoch.ensures.value) in
     let n : to_z w64 (of_z w64 c.args.night) ≡ c.args.night = omega (arith, ints) in
     let night = rw (← c.self.view_is) at c.requires in
-    let here : c.of_night.result.now ≡ filter (is_of_night c.self.inside.nights.shift c.args.night) (groups_of c.self.inside.nights) = rw n at c.of_night.ensures in
+    let here : c.of_night.result.now ≡ filter (is_of_night c.self.inside.nights.shift c.args.night) (listed_of c.self.inside.nights) = rw n at c.of_night.ensures in
     let free = rw (here, e, c.site.ensures) at c.in-Err.ensures.missing in
-    let none = is_not_there c.self.inside.register (groups_of c.self.inside.nights) c.args.exposure.now.epoch c.args.exposure.now.site (none_at_place c.self.inside.nights.shift c.args.exposure.now.epoch c.args.exposure.now.site (groups_of c.self.inside.nights) c.in-Err.index (rw night at free)) in
-    let some = taken_first c.self.inside.register (groups_of c.self.inside.nights) c.self.invariant.1 c.args.exposure.now.detections c.in-Some.at (rw c.detections.ensures.value at (c.in-Some.ensures.some c.in-Some.at refl)) in
+    let none = is_not_there c.self.inside.register (listed_of c.self.inside.nights) c.args.exposure.now.epoch c.args.exposure.now.site (none_at_place c.self.inside.nights.shift c.args.exposure.now.epoch c.args.exposure.now.site (listed_of c.self.inside.nights) c.in-Err.index (rw night at free)) in
+    let some = taken_first c.self.inside.register (listed_of c.self.inside.nights) c.self.invariant.1 c.args.exposure.now.detections c.in-Some.at (rw c.detections.ensures.value at (c.in-Some.ensures.some c.in-Some.at refl)) in
     rw (← c.self.view_is, none, some) refl
 
 pub returns-in-Some-refuses_for_room-clause-cause : goal.returns-in-Some-refuses_for_room-clause-cause
@@ -41,11 +40,11 @@ returns-in-Some-refuses_for_room-clause-cause c =
     let e : to_z w64 (of_z w64 c.epoch-epoch.result) ≡ c.args.exposure.now.epoch = omega (arith, ints, c.epoch-epoch.ensures.value) in
     let n : to_z w64 (of_z w64 c.args.night) ≡ c.args.night = omega (arith, ints) in
     let night = rw (← c.self.view_is) at c.requires in
-    let here : c.of_night.result.now ≡ filter (is_of_night c.self.inside.nights.shift c.args.night) (groups_of c.self.inside.nights) = rw n at c.of_night.ensures in
+    let here : c.of_night.result.now ≡ filter (is_of_night c.self.inside.nights.shift c.args.night) (listed_of c.self.inside.nights) = rw n at c.of_night.ensures in
     let free = rw (here, e, c.site.ensures) at c.in-Err.ensures.missing in
-    let none = is_not_there c.self.inside.register (groups_of c.self.inside.nights) c.args.exposure.now.epoch c.args.exposure.now.site (none_at_place c.self.inside.nights.shift c.args.exposure.now.epoch c.args.exposure.now.site (groups_of c.self.inside.nights) c.in-Err.index (rw night at free)) in
+    let none = is_not_there c.self.inside.register (listed_of c.self.inside.nights) c.args.exposure.now.epoch c.args.exposure.now.site (none_at_place c.self.inside.nights.shift c.args.exposure.now.epoch c.args.exposure.now.site (listed_of c.self.inside.nights) c.in-Err.index (rw night at free)) in
     let untaken : NoneTaken (slot c.self.inside.register) c.args.exposure.now.detections (length c.args.exposure.now.detections) = rw c.detections.ensures.value at (c.in_default-first_taken.ensures.none refl) in
-    let first = no_taken c.self.inside.register (groups_of c.self.inside.nights) c.args.exposure.now.detections untaken in
+    let first = no_taken c.self.inside.register (listed_of c.self.inside.nights) c.args.exposure.now.detections untaken in
     let room = rw (← c.self.view_is) at c.in-Some-refuses_for_room.ensures.cause in
     rw (← c.self.view_is, none, first) (sym room)
 
@@ -54,23 +53,16 @@ returns-clause-place c =
     let e : to_z w64 (of_z w64 c.epoch-epoch.result) ≡ c.args.exposure.now.epoch = omega (arith, ints, c.epoch-epoch.ensures.value) in
     let n : to_z w64 (of_z w64 c.args.night) ≡ c.args.night = omega (arith, ints) in
     let night = rw (← c.self.view_is) at c.requires in
-    let here : c.of_night.result.now ≡ filter (is_of_night c.self.inside.nights.shift c.args.night) (groups_of c.self.inside.nights) = rw n at c.of_night.ensures in
+    let here : c.of_night.result.now ≡ filter (is_of_night c.self.inside.nights.shift c.args.night) (listed_of c.self.inside.nights) = rw n at c.of_night.ensures in
     let free = rw (here, e, c.site.ensures) at c.in-Err.ensures.missing in
-    let none = is_not_there c.self.inside.register (groups_of c.self.inside.nights) c.args.exposure.now.epoch c.args.exposure.now.site (none_at_place c.self.inside.nights.shift c.args.exposure.now.epoch c.args.exposure.now.site (groups_of c.self.inside.nights) c.in-Err.index (rw night at free)) in
+    let none = is_not_there c.self.inside.register (listed_of c.self.inside.nights) c.args.exposure.now.epoch c.args.exposure.now.site (none_at_place c.self.inside.nights.shift c.args.exposure.now.epoch c.args.exposure.now.site (listed_of c.self.inside.nights) c.in-Err.index (rw night at free)) in
     let untaken : NoneTaken (slot c.self.inside.register) c.args.exposure.now.detections (length c.args.exposure.now.detections) = rw c.detections.ensures.value at (c.in_default-first_taken.ensures.none refl) in
-    let first = no_taken c.self.inside.register (groups_of c.self.inside.nights) c.args.exposure.now.detections untaken in
+    let first = no_taken c.self.inside.register (listed_of c.self.inside.nights) c.args.exposure.now.detections untaken in
     let room = rw (← c.self.view_is) at c.in_default-refuses_for_room.ensures.cause in
-    let few = rw (← c.self.view_is) at (c.in_default-refuses_for_room.ensures.free refl) in
     rw (← c.self.view_is, n) (
       rw (none, first) (sym room),
       record {
-        unheld = none;
-        fresh = λ k n d x h held. untaken.fresh k h n d x (sym (held_is c.self.inside.register (groups_of c.self.inside.nights) c.self.invariant.1 n) ∙ held);
-        apart = λ j k x lt h. untaken.apart k h j x lt;
-        room = few;
-      },
-      record {
         night = night;
-        free = among_exposures_of_night c.self.inside.register c.self.inside.nights.shift c.args.night (groups_of c.self.inside.nights) c.args.exposure.now.epoch c.args.exposure.now.site c.in-Err.index free;
+        free = among_exposures_of_night c.self.inside.register c.self.inside.nights.shift c.args.night (listed_of c.self.inside.nights) c.args.exposure.now.epoch c.args.exposure.now.site c.in-Err.index free;
       },
     )

@@ -1,7 +1,7 @@
 use Rattle.std.proofs.Common.{◌≡◌, ◌+◌, length}
 use Rattle.std.specs.List.{sum_by}
-use Rattle.exposure_log.specs.NightGroups.{groups_of}
+use Rattle.exposure_log.specs.Nights.{listed_of}
 use Rattle.exposure_log.proofs.nights.HeldNights.len.Given as goal
 
-abbrev pub invariant-loop-groups : goal.invariant-loop-groups
-invariant-loop-groups l = l.total + sum_by (λ groups. length groups.items) l.groups-iterator ≡ length (groups_of l.self)
+abbrev pub invariant-loop-listed : goal.invariant-loop-listed
+invariant-loop-listed l = l.total + sum_by (λ listed. length listed.items) l.listed-iterator ≡ length (listed_of l.self)

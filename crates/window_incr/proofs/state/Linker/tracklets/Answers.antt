@@ -1,33 +1,31 @@
-use Rattle.std.proofs.Common.{◌≡◌, ◌≤◌, ℕ, List, map, length, ap, subst, ◌∙◌, arith, rules, w64}
+use Rattle.std.proofs.Common.{◌≡◌, ℕ, ℤ, List, Some, None, map, sym, ap, subst, ◌∙◌, rules, to_z, of_z, w64}
 use mir.Facts.{to_z-of_z}
 use mir.Val.{SFits}
+use Rattle.std.specs.List.{find}
+use Rattle.std.specs.Ordering.{int_eq}
 use Rattle.std.specs.Result.{IfOk}
-use Rattle.exposure_log.specs.Held.{spots_of_night, detections_of, most_detections}
-use Rattle.sky_units.specs.Nights.{tracklets_of_night}
-use Rattle.window_incr.specs.Answers.{tracklet_ids}
-use Rattle.window_incr.specs.Ranks.{ids_by_number}
-use Rattle.window_incr.proofs.Fewer.{few_of_night}
-use Rattle.window_incr.proofs.Ranked.{night_in_order}
-use Rattle.window_incr.proofs.Relabelled.{found_in_night}
+use Rattle.night_tree.specs.Nights.{NightData}
+use Rattle.window_incr.specs.Answers.{ids_of, tracklet_ids}
+use Rattle.window_incr.specs.LinkerState.{LinkerState}
+use Rattle.window_incr.proofs.Found.{found_ids, no_ids}
 use Rattle.window_incr.proofs.state.Linker.tracklets.Goals as goal
 
-pub tracklets-requires : goal.tracklets-requires
-tracklets-requires c =
+pub returns-in-Some : goal.returns-in-Some
+returns-in-Some c =
     let fits : SFits w64 c.args.night = search rules in
-    let spots : c.as_slice.result.now ≡ spots_of_night c.self.inside.log c.args.night = simp to_z-of_z at (c.as_slice.ensures.value ∙ c.in_ok-spots.ensures) in
-    let held : length (detections_of c.self.inside.log.exposures) ≤ most_detections = c.self.invariant.1.few in
-    record {
-      few = omega (arith, ap length spots, few_of_night c.self.inside.log c.args.night, held);
-      order = rw spots (night_in_order c.self.inside.log c.args.night c.self.invariant.1);
-    }
+    let plain : to_z w64 (of_z w64 c.args.night) ≡ c.args.night = simp to_z-of_z in
+    let found : Some c.in-Some.kept.now ≡ find (λ (kept : NightData). int_eq kept.number c.args.night) c.as_slice.result.now =
+    subst (λ (n : ℤ). Some c.in-Some.kept.now ≡ find (λ (kept : NightData). int_eq kept.number n) c.as_slice.result.now) plain c.in-Some.ensures in
+    let s : LinkerState = record { settings = c.self.inside.settings; log = c.self.inside.log } in
+    let ids : map (ids_of c.self.inside.log) c.tracklets.result.now ≡ tracklet_ids s c.args.night =
+    ap (map (ids_of c.self.inside.log)) c.tracklets.ensures ∙ found_ids s c.args.night c.as_slice.result.now c.in-Some.kept.now (c.as_slice.ensures.value ∙ c.self.invariant.2) (sym found) in
+    rw (← c.self.view_is) (subst (λ (z : List (List (List ℕ))). IfOk c.groups_of.result (λ groups. groups ≡ z)) ids c.groups_of.ensures)
 
-pub returns : goal.returns
-returns c =
+pub returns-in-None : goal.returns-in-None
+returns-in-None c =
     let fits : SFits w64 c.args.night = search rules in
-    let spots : c.as_slice.result.now ≡ spots_of_night c.self.inside.log c.args.night = simp to_z-of_z at (c.as_slice.ensures.value ∙ c.in_ok-spots.ensures) in
-    let made : c.in_ok-found.found.items ≡ tracklets_of_night c.self.inside.settings c.args.night c.as_slice.result.now = simp to_z-of_z at c.in_ok-found.ensures in
-    let found : c.as_slice-2.result.now ≡ tracklets_of_night c.self.inside.settings c.args.night (spots_of_night c.self.inside.log c.args.night) =
-    c.as_slice-2.ensures.value ∙ made ∙ ap (tracklets_of_night c.self.inside.settings c.args.night) spots in
-    let is : map (ids_by_number c.self.inside.log) c.as_slice-2.result.now ≡ tracklet_ids c.args.self.now c.args.night =
-    rw (← c.self.view_is, found) (found_in_night (record { settings = c.self.inside.settings; log = c.self.inside.log }) c.args.night c.self.invariant.0 c.self.invariant.1) in
-    subst (λ (z : List (List (List ℕ))). IfOk c.groups_of.result (λ groups. groups ≡ z)) is c.groups_of.ensures
+    let plain : to_z w64 (of_z w64 c.args.night) ≡ c.args.night = simp to_z-of_z in
+    let found : None ≡ find (λ (kept : NightData). int_eq kept.number c.args.night) c.as_slice.result.now =
+    subst (λ (n : ℤ). None ≡ find (λ (kept : NightData). int_eq kept.number n) c.as_slice.result.now) plain c.in-None.ensures in
+    let s : LinkerState = record { settings = c.self.inside.settings; log = c.self.inside.log } in
+    rw (← c.self.view_is) (c.new.ensures ∙ sym (no_ids s c.args.night c.as_slice.result.now c.window.ensures.orderly (c.as_slice.ensures.value ∙ c.self.invariant.2) (sym found)))

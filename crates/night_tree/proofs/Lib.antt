@@ -1,0 +1,2 @@
+pub mod EachTwoOf
+pub mod NightTracklets

@@ -1,0 +1,5 @@
+pub mod Answered
+pub mod Slots
+pub mod FreeNumbers
+pub mod Ids
+pub mod Takings

@@ -1,6 +1,0 @@
-pub mod Days
-pub mod EachTwoOf
-pub mod NightTracklets
-pub mod Numbering
-pub mod Stretch
-pub mod WindowNights

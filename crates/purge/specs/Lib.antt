@@ -1,0 +1,3 @@
+pub mod LeastSquares
+pub mod Purging
+pub mod Sizes
