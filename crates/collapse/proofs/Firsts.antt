@@ -1,6 +1,6 @@
 -- A pair joins the first group that it may join; pairs do so one after the other.
-use Rattle.std.proofs.Common.{◌≡◌, ℕ, ◌+◌, ◌<◌, ◌≤◌, ℤ, pos, ◌-ℤ◌, ◌<ℤ◌, true, false, ◌&&◌, List, [], ◌∷◌, ◌++◌, set, length, take, get_or, refl, sym, subst, ap, ◌∙◌, arith}
-use Rattle.std.specs.List.{All, filter}
+use Rattle.std.proofs.Common.{◌≡◌, ℕ, ◌+◌, ◌<◌, ◌≤◌, pos, ◌-ℤ◌, ◌<ℤ◌, true, false, ◌&&◌, List, [], ◌∷◌, ◌++◌, set, length, take, get_or, refl, sym, subst, ap, ◌∙◌, arith}
+use Rattle.std.specs.List.{All}
 use Rattle.std.specs.Prelude.{slice_get, Option, Some, None}
 use Rattle.std.proofs.lemmas.Bool.{cases_Bool, cases_lt, cases_order, false≢true}
 use Rattle.std.proofs.lemmas.Int.{ints}
@@ -21,10 +21,10 @@ use Rattle.collapse.specs.Groups.{may_join, with_pair, join_first, join_all, Are
 use Rattle.collapse.proofs.Together.{places_of_pair, places_with_pair}
 
 -- ---- one pair
-joins_here : (settings : SettingsData) (spots : List SpotData) (pair : ℕ × ℕ) (group : List ℕ) (rest : List (List ℕ)) → may_join settings spots pair group ≡ true → join_first settings spots pair (group ∷ rest) ≡ with_pair group pair ∷ rest
+pub joins_here : (settings : SettingsData) (spots : List SpotData) (pair : ℕ × ℕ) (group : List ℕ) (rest : List (List ℕ)) → may_join settings spots pair group ≡ true → join_first settings spots pair (group ∷ rest) ≡ with_pair group pair ∷ rest
 joins_here settings spots pair group rest h = rw h refl
 
-passes_by : (settings : SettingsData) (spots : List SpotData) (pair : ℕ × ℕ) (group : List ℕ) (rest : List (List ℕ)) → may_join settings spots pair group ≡ false → join_first settings spots pair (group ∷ rest) ≡ group ∷ join_first settings spots pair rest
+pub passes_by : (settings : SettingsData) (spots : List SpotData) (pair : ℕ × ℕ) (group : List ℕ) (rest : List (List ℕ)) → may_join settings spots pair group ≡ false → join_first settings spots pair (group ∷ rest) ≡ group ∷ join_first settings spots pair rest
 passes_by settings spots pair group rest h = rw h refl
 
 rest_none : (settings : SettingsData) (spots : List SpotData) (pair : ℕ × ℕ) (group : List ℕ) (rest : List (List ℕ)) (n : ℕ) → NoneBefore settings spots pair (group ∷ rest) (suc n) → NoneBefore settings spots pair rest n
@@ -45,28 +45,19 @@ joins_at settings spots pair (group ∷ rest) (suc at) d joins none =
     passes_by settings spots pair group rest no ∙ ap (λ (gs : List (List ℕ)). group ∷ gs) (joins_at settings spots pair rest at d record { within = omega arith; joins = joins.joins } (rest_none settings spots pair group rest at none))
 
 -- ---- what the search for the first group told
-pub joined_at : (settings : SettingsData) (spots : List SpotData) (pair : ℕ × ℕ) (groups slice : List (List ℕ)) (first : Option ℕ) (at : ℕ) (group union : List ℕ) → slice ≡ groups → IsFirstToJoin settings spots pair slice first → first ≡ Some at →
-    group ≡ get_or groups at group → union ≡ with_pair group pair → set groups at union ≡ join_first settings spots pair groups
-joined_at settings spots pair groups slice first at group union e told is eg eu =
-    let f = subst (IsFirstToJoin settings spots pair slice) is told in
-    let j : JoinsAt settings spots pair groups at = subst (λ (gs : List (List ℕ)). JoinsAt settings spots pair gs at) e f.0 in
-    let n : NoneBefore settings spots pair groups at = subst (λ (gs : List (List ℕ)). NoneBefore settings spots pair gs at) e f.1 in
-    let u : union ≡ with_pair (get_or groups at group) pair = rw (← eg) eu in
-    sym (joins_at settings spots pair groups at group j n ∙ ap (λ (g : List ℕ). set groups at g) (sym u))
+pub joined_at : (settings : SettingsData) (spots : List SpotData) (pair : ℕ × ℕ) (groups slice : List (List ℕ)) (first : ℕ) (group union : List ℕ) → slice ≡ groups → IsFirstToJoin settings spots pair slice first → first < length groups →
+    group ≡ get_or groups first group → union ≡ with_pair group pair → set groups first union ≡ join_first settings spots pair groups
+joined_at settings spots pair groups slice first group union e told l eg eu =
+    let f : IsFirstToJoin settings spots pair groups first = subst (λ (gs : List (List ℕ)). IsFirstToJoin settings spots pair gs first) e told in
+    let u : union ≡ with_pair (get_or groups first group) pair = rw (← eg) eu in
+    sym (joins_at settings spots pair groups first group (f.joins l) f.before ∙ ap (λ (g : List ℕ). set groups first g) (sym u))
 
-pub joined_new : (settings : SettingsData) (spots : List SpotData) (pair : ℕ × ℕ) (groups slice new : List (List ℕ)) (first : Option ℕ) (places : List ℕ) → slice ≡ groups → IsFirstToJoin settings spots pair slice first → first ≡ None →
+pub joined_new : (settings : SettingsData) (spots : List SpotData) (pair : ℕ × ℕ) (groups slice new : List (List ℕ)) (first : ℕ) (places : List ℕ) → slice ≡ groups → IsFirstToJoin settings spots pair slice first → length groups ≤ first →
     places ≡ pair.0 ∷ pair.1 ∷ [] → new ≡ groups ++ places ∷ [] → new ≡ join_first settings spots pair groups
-joined_new settings spots pair groups slice new first places e told is ep en =
-    let f = subst (IsFirstToJoin settings spots pair slice) is told in
-    let n : NoneBefore settings spots pair groups (length groups) = subst (λ (gs : List (List ℕ)). NoneBefore settings spots pair gs (length gs)) e f in
-    en ∙ ap (λ (p : List ℕ). groups ++ p ∷ []) ep ∙ sym (joins_none settings spots pair groups n)
-
--- ---- one group more that was looked at
-pub none_more : (settings : SettingsData) (spots : List SpotData) (pair : ℕ × ℕ) (groups : List (List ℕ)) (at : ℕ) → at < length groups → ((d : List ℕ) → may_join settings spots pair (get_or groups at d) ≡ false) → NoneBefore settings spots pair groups at → NoneBefore settings spots pair groups (at + 1)
-none_more settings spots pair groups at h past none = λ i d lt il. elim (cases_lt i at) as (λ _. may_join settings spots pair (get_or groups i d) ≡ false) [
-  | inl l ↦ none i d l il
-  | inr l ↦ let e : at ≡ i = omega arith in subst (λ (k : ℕ). may_join settings spots pair (get_or groups k d) ≡ false) e (past d)
-]
+joined_new settings spots pair groups slice new first places e told past ep en =
+    let f : IsFirstToJoin settings spots pair groups first = subst (λ (gs : List (List ℕ)). IsFirstToJoin settings spots pair gs first) e told in
+    let none : NoneBefore settings spots pair groups (length groups) = λ i d lt il. f.before i d (omega arith) il in
+    en ∙ ap (λ (p : List ℕ). groups ++ p ∷ []) ep ∙ sym (joins_none settings spots pair groups none)
 
 -- ---- pairs one after the other
 all_joined : (settings : SettingsData) (spots : List SpotData) (pairs : List (ℕ × ℕ)) (pair : ℕ × ℕ) (groups : List (List ℕ)) → join_all settings spots (pairs ++ pair ∷ []) groups ≡ join_first settings spots pair (join_all settings spots pairs groups)
@@ -106,7 +97,7 @@ later_of_pair settings a b h =
     let w = both (lt_z a.epoch b.epoch) (le_z (b.epoch -ℤ a.epoch) settings.pair_gap) v.0 in
     lt_of_test a.epoch b.epoch w.0
 
-second_within : (settings : SettingsData) (spots : List SpotData) (pair : ℕ × ℕ) → are_pair_at settings spots pair ≡ true → pair.1 < length spots
+pub second_within : (settings : SettingsData) (spots : List SpotData) (pair : ℕ × ℕ) → are_pair_at settings spots pair ≡ true → pair.1 < length spots
 second_within settings spots pair h = elim (cases_lt pair.1 (length spots)) as (λ _. pair.1 < length spots) [
   | inl l ↦ l
   | inr past ↦
@@ -114,7 +105,7 @@ second_within settings spots pair h = elim (cases_lt pair.1 (length spots)) as (
       absurd (false≢true (sym none ∙ h))
 ]
 
-first_within : (settings : SettingsData) (spots : List SpotData) (pair : ℕ × ℕ) → are_pair_at settings spots pair ≡ true → pair.0 < length spots
+pub first_within : (settings : SettingsData) (spots : List SpotData) (pair : ℕ × ℕ) → are_pair_at settings spots pair ≡ true → pair.0 < length spots
 first_within settings spots pair h = elim (cases_lt pair.0 (length spots)) as (λ _. pair.0 < length spots) [
   | inl l ↦ l
   | inr past ↦
@@ -130,7 +121,7 @@ pair_at settings spots pair d h =
     let whole : are_some_pair settings (slice_get spots pair.0) (slice_get spots pair.1) ≡ true = h in
     rw (f, s) at whole
 
-pair_below : (settings : SettingsData) (spots : List SpotData) (pair : ℕ × ℕ) → EpochsDontFall spots → are_pair_at settings spots pair ≡ true → IsPairBelow (length spots) pair
+pub pair_below : (settings : SettingsData) (spots : List SpotData) (pair : ℕ × ℕ) → EpochsDontFall spots → are_pair_at settings spots pair ≡ true → IsPairBelow (length spots) pair
 pair_below settings spots pair order h =
     let m : pair.1 < length spots = second_within settings spots pair h in
     let f : pair.0 < length spots = first_within settings spots pair h in

@@ -1,3 +1,6 @@
 pub mod Distances
+pub mod Filing
 pub mod Firsts
+pub mod OnLines
+pub mod Searching
 pub mod Together

@@ -1,17 +1,18 @@
 -- Places put together stay rising, and so do the spots at them.
-use Rattle.std.proofs.Common.{◌≡◌, ℕ, ◌+◌, ◌<◌, ◌≤◌, pos, true, false, List, [], ◌∷◌, ◌++◌, map, length, take, drop, get_or, refl, sym, subst, ap, ◌∙◌, arith}
-use Rattle.std.specs.List.{All, filter_map, insert}
-use Rattle.std.specs.Prelude.{nat_eq, nat_lt, slice_get, Some}
+use Rattle.std.proofs.Common.{◌≡◌, ℕ, ◌<◌, ◌≤◌, pos, true, false, List, [], ◌∷◌, map, length, take, get_or, refl, sym, ap, ◌∙◌, arith}
+use Rattle.std.specs.List.{All, Contains, insert}
+use Rattle.std.specs.Prelude.{nat_eq, nat_lt}
 use Rattle.std.proofs.lemmas.Bool.{cases_order, lt-ltb, le-ltb, eq-eqb}
-use Rattle.std.proofs.lemmas.List.{get_or-map, length-map, take_more, append-nil}
-use Rattle.std.proofs.lemmas.List.Elements.{All-cons, All-head, All-nil, All-tail, All-weaker, filter_map-append}
-use Rattle.std.proofs.lemmas.Option.{slice_get-get_or}
+use Rattle.std.proofs.lemmas.List.{get_or-map, get_or_default}
+use Rattle.std.proofs.lemmas.List.Elements.{All-cons, All-head, All-nil, All-tail, All-weaker}
 use Prim.Native.Nat.{zero, suc}
 use mathlib.Core.Logic.{inl, inr}
 use Rattle.line_fit.proofs.Twos.{by_place, first_of_two, rest_of_two}
 use Rattle.sky_math.specs.Lists.{EachTwo}
 use Rattle.sky_units.specs.SpotData.{SpotData}
-use Rattle.collapse.specs.Groups.{spots_at, with_place, with_pair, ArePlaces, IsPairBelow}
+use Rattle.sky_units.proofs.SpotsAtPlaces.{spots_are, spots_length}
+use Rattle.sky_units.specs.AtPlaces.{spots_at}
+use Rattle.collapse.specs.Groups.{with_place, with_pair, ArePlaces, IsPairBelow}
 
 -- ---- the three cases of a further place
 pub past : (x p : ℕ) (rest : List ℕ) → x < p → with_place (x ∷ rest) p ≡ x ∷ with_place rest p
@@ -98,24 +99,6 @@ some_with_place (x ∷ rest) p = elim (cases_order x p) as (λ _. 0 < length (wi
 pub no_spot : SpotData
 no_spot = record { num = 0; epoch = pos 0; ra = pos 0; dec = pos 0 }
 
-pub spots_are : (spots : List SpotData) (places : List ℕ) (d : SpotData) → All (λ p. p < length spots) places → spots_at spots places ≡ map (λ p. get_or spots p d) places
-spots_are spots [] d h = refl
-spots_are spots (p ∷ rest) d h =
-    let one : slice_get spots p ≡ Some (get_or spots p d) = slice_get-get_or spots p d (All-head (λ p. p < length spots) p rest h) in
-    let others = spots_are spots rest d (All-tail (λ p. p < length spots) p rest h) in
-    rw one (ap (λ (xs : List SpotData). get_or spots p d ∷ xs) others)
-
-pub one_more_spot : (spots : List SpotData) (places : List ℕ) (i : ℕ) (x : SpotData) (found : List SpotData) → i < length places → All (λ p. p < length spots) places → x ≡ get_or spots (get_or places i 0) x →
-    found ≡ spots_at spots (take i places) → found ++ x ∷ [] ≡ spots_at spots (take (i + 1) places)
-one_more_spot spots places i x found h within e f =
-    let one : slice_get spots (get_or places i 0) ≡ Some x = slice_get-get_or spots (get_or places i 0) x (within i 0 h) ∙ ap (λ (s : SpotData). Some s) (sym e) in
-    let last : spots_at spots (get_or places i 0 ∷ []) ≡ x ∷ [] = rw one refl in
-    let more : take (i + 1) places ≡ take i places ++ get_or places i 0 ∷ [] = take_more places i 0 h in
-    rw (more, filter_map-append (slice_get spots) (take i places) (get_or places i 0 ∷ []), last, f) refl
-
-pub spots_length : (spots : List SpotData) (places : List ℕ) → All (λ p. p < length spots) places → (d : SpotData) → length (spots_at spots places) ≡ length places
-spots_length spots places h d = ap length (spots_are spots places d h) ∙ length-map places (λ p. get_or spots p d)
-
 pub two_at : (R : SpotData → SpotData → Type 0) (spots : List SpotData) (places : List ℕ) → ArePlaces (length spots) places → EachTwo R spots → EachTwo R (spots_at spots places)
 two_at R spots places a each = λ i j d ij jn.
     let e : spots_at spots places ≡ map (λ p. get_or spots p d) places = spots_are spots places d a.within in
@@ -167,3 +150,28 @@ stand_in_order places p q a b rising h = elim (cases_order a.at b.at) as (λ _. 
   | inr (inl l) ↦ l
   | inr (inr g) ↦ let r = rising b.at a.at 0 g a.within in let r' = rw (a.is, b.is) at r in absurd (omega arith)
 ]
+
+-- a place that is there changes nothing
+with_same_at : (xs : List ℕ) (p k : ℕ) → EachTwo (λ i j. i < j) xs → k < length xs → get_or xs k p ≡ p → with_place xs p ≡ xs
+with_same_at [] p k h kl e = absurd (omega arith)
+with_same_at (x ∷ rest) p zero h kl e = there x p rest e
+with_same_at (x ∷ rest) p (suc k) h kl e =
+    let l : x < get_or rest k p = first_of_two (λ i j. i < j) x rest h k p (omega arith) in
+    let m : x < p = rw e at l in
+    past x p rest m ∙ ap (λ (xs : List ℕ). x ∷ xs) (with_same_at rest p k (rest_of_two (λ i j. i < j) x rest h) (omega arith) e)
+
+pub pair_same : (xs : List ℕ) (pair : ℕ × ℕ) → EachTwo (λ i j. i < j) xs → Contains xs pair.0 → Contains xs pair.1 → with_pair xs pair ≡ xs
+pair_same xs pair h a b = ap (λ (ys : List ℕ). with_place ys pair.1) (with_same_at xs pair.0 a.0 h a.1 a.2) ∙ with_same_at xs pair.1 b.0 h b.1 b.2
+
+pub stands_of : (xs : List ℕ) (p : ℕ) → Contains xs p → StandsIn xs p
+stands_of xs p c = record { at = c.0; within = c.1; is = get_or_default xs c.0 0 p c.1 ∙ c.2 }
+
+pub among_of : (xs : List ℕ) (p : ℕ) → StandsIn xs p → Contains xs p
+among_of xs p s = (s.at, s.within, get_or_default xs s.at p 0 s.within ∙ s.is)
+
+-- the places of a group stay
+pub among_still : (xs : List ℕ) (pair : ℕ × ℕ) (p : ℕ) → Contains xs p → Contains (with_pair xs pair) p
+among_still xs pair p c =
+    let s = stands_of xs p c in
+    let t = stands_still xs pair.0 p s.at s.within s.is in
+    among_of (with_pair xs pair) p (stands_still (with_place xs pair.0) pair.1 p t.at t.within t.is)

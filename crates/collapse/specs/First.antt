@@ -1,6 +1,5 @@
 -- The first group that a pair may join.
-use Rattle.std.specs.Prelude.{◌≡◌, ℕ, ◌<◌, true, false, List, length, slice_index_or, Option, MatchOption}
-use Rattle.std.specs.List.{All}
+use Rattle.std.specs.Prelude.{◌≡◌, ℕ, ◌<◌, ◌≤◌, true, false, List, length, slice_index_or}
 use Rattle.sky_units.specs.SettingsData.{SettingsData}
 use Rattle.sky_units.specs.SpotData.{SpotData}
 use Rattle.collapse.specs.Groups.{may_join}
@@ -14,6 +13,8 @@ pub record JoinsAt (settings : SettingsData) (spots : List SpotData) (pair : ℕ
   pub within : at < length groups
   pub joins : (d : List ℕ) → may_join settings spots pair (slice_index_or groups at d) ≡ true
 
--- where the first group stands that the pair may join, or None where it may join none
-abbrev pub IsFirstToJoin : SettingsData → List SpotData → ℕ × ℕ → List (List ℕ) → Option ℕ → Type 0
-IsFirstToJoin settings spots pair groups first = MatchOption first (NoneBefore settings spots pair groups (length groups)) (λ at. JoinsAt settings spots pair groups at × NoneBefore settings spots pair groups at)
+-- where the first group stands that the pair may join, or the number of groups where it may join none
+pub record IsFirstToJoin (settings : SettingsData) (spots : List SpotData) (pair : ℕ × ℕ) (groups : List (List ℕ)) (first : ℕ) : Type 0 where
+  pub most : first ≤ length groups
+  pub joins : first < length groups → JoinsAt settings spots pair groups first
+  pub before : NoneBefore settings spots pair groups first

@@ -1,15 +1,12 @@
 -- The groups of a night: pairs that lie on one line, each pair in the first group that takes it.
-use Rattle.std.specs.Prelude.{if◌then◌else◌, ℕ, ◌<◌, Bool, List, [], ◌∷◌, nat_eq, nat_lt, slice_get}
-use Rattle.std.specs.List.{All, filter_map}
+use Rattle.std.specs.Prelude.{if◌then◌else◌, ℕ, ◌<◌, Bool, List, [], ◌∷◌, nat_eq, nat_lt}
+use Rattle.std.specs.List.{All}
 use Rattle.sky_math.specs.Lists.{EachTwo}
+use Rattle.sky_units.specs.AtPlaces.{spots_at}
 use Rattle.sky_units.specs.Pairs.{pairs_of}
 use Rattle.sky_units.specs.SettingsData.{SettingsData}
 use Rattle.sky_units.specs.SpotData.{SpotData}
 use Rattle.line_fit.specs.Lines.{lies_on_line}
-
--- the spots at some places
-abbrev pub spots_at : List SpotData → List ℕ → List SpotData
-spots_at spots places = filter_map (slice_get spots) places
 
 -- rising places with one more
 abbrev pub with_place : List ℕ → ℕ → List ℕ

@@ -1,3 +1,4 @@
 pub mod First
 pub mod Groups
 pub mod Reach
+pub mod Strips

@@ -1,15 +1,14 @@
 //! Pairs that join groups.
 
-ghost use Rattle.std.specs.Prelude.{◌≡◌, ◌<◌, ◌^◌, true, length, slice_index_or, take, IfOk, OnOk, MatchOption};
-ghost use Rattle.std.specs.List.{All};
+ghost use Rattle.std.specs.Prelude.{◌≡◌, ◌<◌, ◌^◌, length, map, IfOk, OnOk};
 ghost use Rattle.sky_units.specs.Pairs.{EpochsDontFall, pairs_of};
 ghost use Rattle.line_fit.specs.Slopes.{AreOfOneDay};
-ghost use Rattle.collapse.specs.Groups.{may_join, join_first, groups_of, ArePlaces, IsPairBelow};
-ghost use Rattle.collapse.specs.First.{IsFirstToJoin};
+ghost use Rattle.collapse.specs.Groups.{join_first, groups_of, IsPairBelow};
+ghost use Rattle.collapse.specs.Strips.{AreFiled, AreGroups, IsGrid};
 
-use crate::reaching::may_reach;
-use crate::uniting::{places_of, spots_at, with_pair};
-use line_fit::fits_line;
+use crate::joining::first_to_join;
+use crate::strips::{Entry, Grid, empty_strips, file, grid_of, strip_of};
+use crate::uniting::with_pair;
 use sky_units::{NoMemory, Places, Settings, Spot};
 use std::alloc::Global;
 
@@ -29,9 +28,20 @@ pub fn collapse(
     requires pairs { pairs.now ≡ pairs_of settings.now spots.now }
     ensures { IfOk result (λ groups. groups.items ≡ groups_of settings.now spots.now) }
 {
+    let _ = &settings.line_tol;
+    let grid = grid_of(spots, pairs.len(), settings);
+    let mut strips = empty_strips(alloc, grid)?;
     let mut groups = Vec::new(alloc);
     for at in 0..pairs.len() {
-        add_pair(alloc, &mut groups, spots, pairs[at], settings)?;
+        add_pair(
+            alloc,
+            &mut groups,
+            &mut strips,
+            grid,
+            spots,
+            pairs[at],
+            settings,
+        )?;
     }
     Ok(groups)
 }
@@ -40,6 +50,8 @@ pub fn collapse(
 fn add_pair(
     alloc: Global,
     groups: &mut Vec<Places>,
+    strips: &mut Vec<Vec<Entry>>,
+    grid: Grid,
     spots: &[Spot],
     pair: (u32, u32),
     settings: &Settings,
@@ -47,65 +59,32 @@ fn add_pair(
     requires order { EpochsDontFall spots.now }
     requires day { AreOfOneDay spots.now }
     requires pair { IsPairBelow (length spots.now) pair }
-    requires groups { All (ArePlaces (length spots.now)) groups.now.items }
-    ensures { OnOk result (groups.new.items ≡ join_first settings.now spots.now pair groups.old.items) }
+    requires grid { IsGrid settings.now spots.now grid.width grid.reach }
+    requires groups { AreGroups settings.now spots.now groups.now.items }
+    requires filed { AreFiled spots.now grid.width
+        (map (λ list. list.items) strips.now.items) groups.now.items }
+    ensures groups { OnOk result (groups.new.items ≡
+        join_first settings.now spots.now pair groups.old.items) }
+    ensures filed { OnOk result (AreFiled spots.now grid.width
+        (map (λ list. list.items) strips.new.items) groups.new.items) }
 {
-    match first_to_join(alloc, groups.as_slice(), spots, pair, settings)? {
-        Some(at) => {
-            let union = with_pair(alloc, groups[at].items(), pair)?;
-            groups[at] = places_of(alloc, union.as_slice())?;
-        }
-        None => groups.push(places_of(alloc, &[pair.0, pair.1])?)?,
+    let at = first_to_join(
+        alloc,
+        groups.as_slice(),
+        strips.as_slice(),
+        grid,
+        spots,
+        pair,
+        settings,
+    )?;
+    if at < groups.len() {
+        let union = with_pair(alloc, groups[at].items(), pair)?;
+        groups[at] = Places::of(union);
+    } else {
+        let strip = strip_of(grid.width, &spots[pair.0 as usize]);
+        let place = pair.0;
+        file(strips, strip, Entry { place, group: at })?;
+        groups.push(Places::of(vec![in alloc; pair.0, pair.1]?))?;
     }
     Ok(())
-}
-
-/// Where the first group stands that a pair may join.
-fn first_to_join(
-    alloc: Global,
-    groups: &[Places],
-    spots: &[Spot],
-    pair: (u32, u32),
-    settings: &Settings,
-) -> Result<Option<usize>, NoMemory>
-    requires order { EpochsDontFall spots.now }
-    requires day { AreOfOneDay spots.now }
-    requires pair { IsPairBelow (length spots.now) pair }
-    requires groups { All (ArePlaces (length spots.now)) groups.now }
-    ensures { IfOk result (IsFirstToJoin settings.now spots.now pair groups.now) }
-{
-    for at in 0..groups.len() {
-        let group = &groups[at];
-        if joins(alloc, group.items(), spots, pair, settings)? {
-            return Ok(Some(at));
-        }
-    }
-    Ok(None)
-}
-
-/// Whether a group and a pair lie on a line.
-fn joins(
-    alloc: Global,
-    group: &[u32],
-    spots: &[Spot],
-    pair: (u32, u32),
-    settings: &Settings,
-) -> Result<bool, NoMemory>
-    requires order { EpochsDontFall spots.now }
-    requires day { AreOfOneDay spots.now }
-    requires pair { IsPairBelow (length spots.now) pair }
-    requires group { ArePlaces (length spots.now) group.now }
-    ensures { IfOk result (λ joins. joins ≡ may_join settings.now spots.now pair group.now) }
-{
-    if !may_reach(group, spots, pair, settings) {
-        return Ok(false);
-    }
-    let union = with_pair(alloc, group, pair)?;
-    let together = spots_at(alloc, spots, union.as_slice())?;
-    Ok(fits_line(
-        together.as_slice(),
-        settings.line_tol,
-        settings.rate_ra,
-        settings.rate_dec,
-    ))
 }

@@ -7,7 +7,9 @@
 pub use grouping::collapse;
 
 mod grouping;
+mod joining;
 mod reaching;
+mod strips;
 #[cfg(test)]
 mod tests;
 mod uniting;

@@ -1,7 +1,8 @@
 //! Whether a group and a pair are near enough to lie on a line: a quick test before the exact one.
 
-ghost use Rattle.std.specs.Prelude.{◌≡◌, ◌<◌, ◌+ℤ◌, ◌-ℤ◌, ◌*ℤ◌, ◌≤ℤ◌, neg_ℤ, pos, false, ◌&&◌, length};
+ghost use Rattle.std.specs.Prelude.{◌≡◌, ◌<◌, ◌+ℤ◌, ◌-ℤ◌, ◌*ℤ◌, ◌≤ℤ◌, neg_ℤ, pos, false, ◌&&◌, ℕ, List, length};
 ghost use Rattle.std.specs.Int.Signed.{le_z};
+ghost use Rattle.std.specs.List.{Contains};
 ghost use Rattle.sky_units.specs.Motion.{offset};
 ghost use Rattle.sky_units.specs.Ranges.{IsBetween};
 ghost use Rattle.line_fit.specs.Slopes.{AreOfOneDay};
@@ -13,22 +14,18 @@ use sky_units::{Axis, Settings, Spot, offset};
 /// The ticks of a day, over which rates are counted.
 const TICKS_PER_DAY: i64 = 1_000_000;
 
-/// Whether a group's first spot and a pair's first one are near enough for a line. Where they aren't,
-/// the pair may not join the group.
-pub fn may_reach(group: &[u32], spots: &[Spot], pair: (u32, u32), settings: &Settings) -> bool
+/// Whether the spot at a place and a pair's first one are near enough for a line. Where they aren't,
+/// the pair may join no group that has the place.
+pub fn may_reach(place: u32, spots: &[Spot], pair: (u32, u32), settings: &Settings) -> bool
     requires day { AreOfOneDay spots.now }
     requires pair { IsPairBelow (length spots.now) pair }
-    requires group { ArePlaces (length spots.now) group.now }
-    ensures { result ≡ false → may_join settings.now spots.now pair group.now ≡ false }
+    ensures { result ≡ false → (group : List ℕ) → ArePlaces (length spots.now) group →
+        Contains group place → may_join settings.now spots.now pair group ≡ false }
 {
-    if group.is_empty() {
+    if place >= pair.0 {
         return true;
     }
-    let first = group[0];
-    if first >= pair.0 {
-        return true;
-    }
-    are_in_reach(&spots[first as usize], &spots[pair.0 as usize], settings)
+    are_in_reach(&spots[place as usize], &spots[pair.0 as usize], settings)
 }
 
 /// Whether one spot is later than another one, and within its reach on both axes.
@@ -58,7 +55,7 @@ fn are_in_reach(from: &Spot, to: &Spot, settings: &Settings) -> bool
 
 /// How far two spots of a line may be apart, so many ticks after one another: what the rate allows and
 /// twice the tolerance, times the ticks of a day.
-fn reach(rate: i64, tol: i64, ticks: i64) -> i64
+pub fn reach(rate: i64, tol: i64, ticks: i64) -> i64
     requires rate { IsBetween (pos 0) (pos 10000000) rate }
     requires tol { IsBetween (pos 0) (pos 100000) tol }
     requires ticks { IsBetween (pos 0) (pos 1000000) ticks }
@@ -71,7 +68,8 @@ fn reach(rate: i64, tol: i64, ticks: i64) -> i64
 /// Whether one spot is within the reach of another one on an axis.
 fn is_in_reach(axis: Axis, from: &Spot, to: &Spot, reach: i64) -> bool
     requires { IsBetween (neg_ℤ (pos 20000000000000)) (pos 20000000000000) reach }
-    ensures { result ≡ (le_z (neg_ℤ reach) (offset axis from.now to.now *ℤ pos 1000000) && le_z (offset axis from.now to.now *ℤ pos 1000000) reach) }
+    ensures { result ≡ (le_z (neg_ℤ reach) (offset axis from.now to.now *ℤ pos 1000000) &&
+        le_z (offset axis from.now to.now *ℤ pos 1000000) reach) }
 {
     let moved = offset(axis, from, to) * TICKS_PER_DAY;
     -reach <= moved && moved <= reach

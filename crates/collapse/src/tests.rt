@@ -63,18 +63,20 @@ fn are(groups: &[Places], rows: &[&[u32]]) -> bool {
     true
 }
 
-/// The groups of the pairs of spots.
-fn groups_of_pairs(
-    alloc: Global,
-    spots: &[Spot],
-    settings: &Settings,
-) -> Result<Vec<Places>, NoMemory>
+/// Whether the pairs of spots make the groups of these rows.
+fn make(alloc: Global, spots: &[Spot], rows: &[&[u32]]) -> Result<bool, NoMemory>
     requires few { length spots.now < 2 ^ 32 }
-    requires order { EpochsDontFall spots.now }
-    requires day { AreOfOneDay spots.now }
 {
-    let found = pairs(alloc, spots, settings)?;
-    collapse(alloc, spots, found.as_slice(), settings)
+    if !dont_fall(spots) {
+        return Ok(false);
+    }
+    if !are_of_one_day(spots) {
+        return Ok(false);
+    }
+    let settings = Settings::standard();
+    let found = pairs(alloc, spots, &settings)?;
+    let groups = collapse(alloc, spots, found.as_slice(), &settings)?;
+    Ok(are(groups.as_slice(), rows))
 }
 
 #[test]
@@ -85,11 +87,7 @@ fn four_of_one_night(rt: HostRuntime) -> Result<(), Fail> {
         spot(2, 59_000_270_000, 10_002_500),
         spot(3, 59_000_280_000, 10_003_000),
     ];
-    let settings = Settings::standard();
-    assert!(rt; dont_fall(&spots));
-    assert!(rt; are_of_one_day(&spots));
-    let groups = groups_of_pairs(rt.alloc(), &spots, &settings)?;
-    assert!(rt; are(groups.as_slice(), &[&[0, 1, 2, 3]]));
+    assert!(rt; make(rt.alloc(), &spots, &[&[0, 1, 2, 3]])?);
     Ok(())
 }
 
@@ -104,15 +102,35 @@ fn first_group_of_two(rt: HostRuntime) -> Result<(), Fail> {
         spot(4, 59_000_270_000, 10_000_390),
         spot(5, 59_000_280_000, 10_000_390),
     ];
-    let settings = Settings::standard();
-    assert!(rt; dont_fall(&spots));
-    assert!(rt; are_of_one_day(&spots));
-    let groups = groups_of_pairs(rt.alloc(), &spots, &settings)?;
     assert!(rt;
-        are(
-            groups.as_slice(),
+        make(
+            rt.alloc(),
+            &spots,
             &[&[0, 2, 4, 5], &[0, 3, 4, 5], &[1, 2, 4, 5], &[1, 3]]
-        )
+        )?
     );
+    Ok(())
+}
+
+/// The first and the last are 0.1 days apart, more than a pair may be.
+#[test]
+fn farther_than_the_pair_gap(rt: HostRuntime) -> Result<(), Fail> {
+    let spots = [
+        spot(0, 59_000_200_000, 10_000_000),
+        spot(1, 59_000_250_000, 10_005_000),
+        spot(2, 59_000_300_000, 10_010_000),
+    ];
+    assert!(rt; make(rt.alloc(), &spots, &[&[0, 1, 2]])?);
+    Ok(())
+}
+
+#[test]
+fn across_ra_zero(rt: HostRuntime) -> Result<(), Fail> {
+    let spots = [
+        spot(0, 59_000_250_000, 359_999_000),
+        spot(1, 59_000_260_000, 100),
+        spot(2, 59_000_270_000, 1_000),
+    ];
+    assert!(rt; make(rt.alloc(), &spots, &[&[0, 1, 2]])?);
     Ok(())
 }

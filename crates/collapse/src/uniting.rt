@@ -1,10 +1,10 @@
-//! Places of spots put together.
+//! Places put together.
 
-ghost use Rattle.std.specs.Prelude.{◌≡◌, ◌<◌, ◌≤◌, length, slice_index_or, take, IfOk};
-ghost use Rattle.std.specs.List.{All};
-ghost use Rattle.collapse.specs.Groups.{spots_at, with_place, with_pair};
+ghost use Rattle.std.specs.Prelude.{◌≡◌, ◌<◌, ◌≤◌, length, slice_index_or, take, IfOk, IsTrue};
+ghost use Rattle.std.specs.List.{All, Contains};
+ghost use Rattle.collapse.specs.Groups.{with_place, with_pair};
 
-use sky_units::{NoMemory, Places, Spot};
+use sky_units::NoMemory;
 use std::alloc::Global;
 
 /// The first place that isn't below `place`, among rising ones: where it stands, or their number.
@@ -19,6 +19,27 @@ fn first_from(places: &[u32], place: u32) -> usize
         }
     }
     places.len()
+}
+
+/// Whether a group has both places of a pair. It is true only where it has.
+pub fn has_both(group: &[u32], pair: (u32, u32)) -> bool
+    ensures { IsTrue result → Contains group.now pair.0 × Contains group.now pair.1 }
+{
+    if !has(group, pair.0) {
+        return false;
+    }
+    has(group, pair.1)
+}
+
+/// Whether a place stands among rising ones.
+fn has(places: &[u32], place: u32) -> bool
+    ensures { IsTrue result → Contains places.now place }
+{
+    let at = first_from(places, place);
+    if at >= places.len() {
+        return false;
+    }
+    places[at] == place
 }
 
 /// Rising places with one more.
@@ -40,28 +61,4 @@ pub fn with_pair(alloc: Global, group: &[u32], pair: (u32, u32)) -> Result<Vec<u
 {
     let with_first = with_place(alloc, group, pair.0)?;
     with_place(alloc, with_first.as_slice(), pair.1)
-}
-
-/// A copy of some places.
-pub fn places_of(alloc: Global, places: &[u32]) -> Result<Places, NoMemory>
-    ensures { IfOk result (λ copy. copy ≡ places.now) }
-{
-    let mut copy = Places::new(alloc);
-    for at in 0..places.len() {
-        copy.push(places[at])?;
-    }
-    Ok(copy)
-}
-
-/// The spots at some places.
-pub fn spots_at(alloc: Global, spots: &[Spot], places: &[u32]) -> Result<Vec<Spot>, NoMemory>
-    requires { All (λ p. p < length spots.now) places.now }
-    ensures { IfOk result (λ found. found.items ≡ spots_at spots.now places.now) }
-{
-    let mut found = Vec::new(alloc);
-    for at in 0..places.len() {
-        let place = places[at] as usize;
-        found.push(spots[place])?;
-    }
-    Ok(found)
 }

@@ -1,21 +1,32 @@
 -- A rising list of detections is cut into exposures, and in one way.
-use Rattle.std.proofs.Common.{◌≡◌, ℕ, ◌<◌, ℤ, true, false, cond, List, [], ◌∷◌, ◌++◌, length, get_or, refl, sym, ap, ◌∙◌, subst, arith, suc, inl, inr}
+use Rattle.std.proofs.Common.{◌≡◌, ℕ, ◌+◌, ◌-◌, ◌^◌, ◌<◌, ◌≤◌, ℤ, true, false, cond, List, [], ◌∷◌, ◌++◌, length, get_or, take, drop, reverse, refl, sym, ap, ◌∙◌, subst, arith, zero, suc, inl, inr, length-take, append_assoc}
 use Rattle.std.specs.List.{All, AllPairs, flat_map}
 use Rattle.std.specs.declared.cmp.Ordering.{Ordering}
 use Rattle.std.specs.declared.cmp.Ordering.TheVariants.{Less, Equal, Greater}
 use Rattle.std.specs.Ordering.{int_cmp, nat_cmp, ordering_then, is_eq, is_gt}
 use Rattle.std.specs.Cmp.Lexicographic.{slice_cmp}
-use Rattle.std.proofs.lemmas.Bool.{cases_Bool}
-use Rattle.std.proofs.lemmas.Cmp.{tied_itself}
+use Rattle.std.proofs.lemmas.Bool.{cases_Bool, cases_eq}
+use Rattle.std.proofs.lemmas.Cmp.{tied_itself, int_cmp_total, nat_list_cmp_total}
+use Rattle.std.proofs.lemmas.List.{get_or_default, get_or-take, get_or-drop, length-drop, append-nil, reverse-append, take-append-drop}
 use Rattle.std.proofs.lemmas.List.Elements.{All-nil, All-cons, All-head, All-tail, All-append, All-weaker}
 use Rattle.std.proofs.lemmas.List.Kept.{AllPairs-cons}
 use Rattle.std.proofs.lemmas.Map.Lookups.{exact_bytes, exact_signed}
 use Rattle.miti_text.specs.Observation.{Observation}
 use Rattle.exposure_log.specs.Held.{ExposureData}
-use Rattle.exposure_log.specs.Gathered.{Precedes, NotAfter}
+use Rattle.exposure_log.specs.Exposures.{IsExposure, IdsDontFall}
+use Rattle.exposure_log.specs.Gathered.{Precedes, NotAfter, IsOfOneExposure}
 use Rattle.exposure_log.specs.Deliveries.{IsOneExposure}
-use Rattle.exposure_log.proofs.Gathering.{Ds, at, place, by_id}
 use Rattle.exposure_log.proofs.Order.{Place, by_place, place_total}
+use Rattle.exposure_log.proofs.StableSort.{equal_from_no_greater}
+
+abbrev pub Ds : Type 0
+Ds = List Observation
+
+abbrev at : Observation → Place
+at d = (d.epoch, d.site)
+
+abbrev place : ExposureData → Place
+place x = (x.epoch, x.site)
 
 abbrev pub joined : List ExposureData → Ds
 joined xs = flat_map (λ x. x.detections) xs
@@ -100,6 +111,15 @@ place_is p q e s = ap (λ (z : ℤ). pair z p.1) e ∙ ap (pair q.0) s
 
 same_at : (p q : Place) → p.0 ≡ q.0 → p.1 ≡ q.1 → by_place p q ≡ Equal
 same_at p q e s = ap (λ (z : Place). by_place z q) (place_is p q e s) ∙ tied_itself place_total q
+
+same_epoch : (x y : ℤ) → x ≡ y → int_cmp x y ≡ Equal
+same_epoch x y e = ap (λ (z : ℤ). int_cmp z y) e ∙ tied_itself int_cmp_total y
+
+pub same_site : (x y : List ℕ) → x ≡ y → slice_cmp nat_cmp x y ≡ Equal
+same_site x y e = ap (λ (z : List ℕ). slice_cmp nat_cmp z y) e ∙ tied_itself nat_list_cmp_total y
+
+by_id : (x y : Observation) → NotAfter x y → IsOfOneExposure x y → is_gt (slice_cmp nat_cmp x.id y.id) ≡ false
+by_id x y h one = rw (same_epoch x.epoch y.epoch one.0, same_site x.site y.site one.1) at h
 
 by_ids : (a b c : Ordering) → ordering_then a b ≡ Equal → is_gt c ≡ false → is_gt (ordering_then a (ordering_then b c)) ≡ false
 by_ids a b c e h = let both = both_equal a b e in rw (both.0, both.1) h
@@ -280,3 +300,138 @@ cut_one x (d ∷ ds) xs is one p c =
 pub cut_again : (xs : List ExposureData) → AllPairs Precedes xs → All IsOneExposure xs → cut (joined xs) ≡ xs
 cut_again [] p each = refl
 cut_again (x ∷ xs) p each = cut_one x x.detections xs refl (All-head IsOneExposure x xs each) (first_precedes x xs p) (cut_again xs (rest_in_order Precedes x xs p) (All-tail IsOneExposure x xs each))
+
+-- ---- the last exposure is cut off
+
+pub one_exposure : (x : ExposureData) → IsExposure x → IsOneExposure x
+one_exposure x is = record { some = is.some; one_epoch = is.one_epoch; one_site = is.one_site; by_id = is.by_id }
+
+pub ids_rise : (ds : Ds) → ((d : Observation) → All (λ e. IsOfOneExposure e (get_or ds (length ds - 1) d)) ds) → AllPairs NotAfter ds → IdsDontFall ds
+ids_rise ds one rise i j e l h =
+    let a = one e i e (omega (arith, l, h)) in
+    let b = one e j e h in
+    by_id (get_or ds i e) (get_or ds j e) (rise i j e l h) (a.0 ∙ sym b.0, a.1 ∙ sym b.1)
+
+with_first_some : (d : Observation) (xs : List ExposureData) → 0 < length (with_first d xs)
+with_first_some d [] = omega arith
+with_first_some d (x ∷ xs) = elim (cases_Bool (is_eq (by_place (at d) (place x)))) [
+  | inl y ↦ rw y (omega arith)
+  | inr f ↦ rw f (omega arith)
+]
+
+with_first_front : (d : Observation) (xs : List ExposureData) (last : ExposureData) → 0 < length xs → with_first d (xs ++ last ∷ []) ≡ with_first d xs ++ last ∷ []
+with_first_front d [] last h = absurd (omega arith)
+with_first_front d (x ∷ xs) last h = elim (cases_Bool (is_eq (by_place (at d) (place x)))) [
+  | inl y ↦ rw y refl
+  | inr f ↦ rw f refl
+]
+
+-- the last detection is of another place
+abbrev EndsElsewhere : Ds → ExposureData → Type 0
+EndsElsewhere ds x = (k : ℕ) (d : Observation) → length ds ≡ suc k → is_eq (by_place (at (get_or ds k d)) (place x)) ≡ false
+
+cut_last : (ds : Ds) (x : ExposureData) → cut x.detections ≡ x ∷ [] → EndsElsewhere ds x → cut (ds ++ x.detections) ≡ cut ds ++ x ∷ []
+cut_last [] x one other = one
+cut_last (d ∷ []) x one other = ap (with_first d) one ∙ rw (other 0 d refl) refl
+cut_last (d ∷ e ∷ ds) x one other =
+    ap (with_first d) (cut_last (e ∷ ds) x one (λ k f h. other (suc k) f (omega (arith, h)))) ∙ with_first_front d (cut (e ∷ ds)) x (with_first_some e (cut ds))
+
+cut_whole : (x : ExposureData) → IsOneExposure x → cut x.detections ≡ x ∷ []
+cut_whole x one = ap cut (sym (append-nil x.detections)) ∙ cut_one x x.detections [] refl one (All-nil (Precedes x)) refl
+
+elsewhere : (d last : Observation) (x : ExposureData) → last.epoch ≡ x.epoch → last.site ≡ x.site → (IsOfOneExposure d last → ⊥) → is_eq (by_place (at d) (place x)) ≡ false
+elsewhere d last x epoch site apart = elim (cases_Bool (is_eq (by_place (at d) (place x)))) [
+  | inl y ↦ absurd (let same = same_place (at d) (place x) (is_equal (by_place (at d) (place x)) y) in apart (same.0 ∙ sym epoch, same.1 ∙ sym site))
+  | inr f ↦ f
+]
+
+module _ (rest : Ds) (start : ℕ) (within : start < length rest) where
+  pub front_rises : AllPairs NotAfter rest → AllPairs NotAfter (take start rest)
+  front_rises rise i j d l h =
+      let j' : j < start = omega (arith, h, length-take start rest) in
+      rw (get_or-take start rest i d (omega (arith, l, j')), get_or-take start rest j d j') (rise i j d l (omega (arith, j', within)))
+
+  pub back_rises : AllPairs NotAfter rest → AllPairs NotAfter (drop start rest)
+  back_rises rise i j d l h =
+      rw (get_or-drop start rest i d, get_or-drop start rest j d) (rise (start + i) (start + j) d (omega (arith, l)) (omega (arith, h, length-drop start rest)))
+
+  pub back_is_one : ((k : ℕ) (d : Observation) → start ≤ k → k < length rest → IsOfOneExposure (get_or rest k d) (get_or rest (length rest - 1) d))
+      → (d : Observation) → All (λ e. IsOfOneExposure e (get_or (drop start rest) (length (drop start rest) - 1) d)) (drop start rest)
+  back_is_one one d k e h =
+      let many = length-drop start rest in
+      let last : length (drop start rest) - 1 < length (drop start rest) = omega (arith, h) in
+      let end : start + (length (drop start rest) - 1) ≡ length rest - 1 = omega (arith, many, within) in
+      let there : get_or (drop start rest) (length (drop start rest) - 1) d ≡ get_or rest (length rest - 1) d = get_or-drop start rest (length (drop start rest) - 1) d ∙ ap (λ (n : ℕ). get_or rest n d) end in
+      let same : get_or rest (length rest - 1) e ≡ get_or rest (length rest - 1) d = within_is rest (length rest - 1) e d (omega (arith, within)) in
+      rw (get_or-drop start rest k e, there, sym same) (one (start + k) e (omega arith) (omega (arith, h, many)))
+    where
+      within_is : (ds : Ds) (k : ℕ) (d e : Observation) → k < length ds → get_or ds k d ≡ get_or ds k e
+      within_is [] k d e h = absurd (omega (arith, h))
+      within_is (x ∷ xs) zero d e h = refl
+      within_is (x ∷ xs) (suc k) d e h = within_is xs k d e (omega (arith, h))
+
+  pub taken_off : (x : ExposureData) → IsExposure x → x.detections ≡ drop start rest
+      → ((d : Observation) → 0 < start → IsOfOneExposure (get_or rest (start - 1) d) (get_or rest (length rest - 1) d) → ⊥)
+      → cut rest ≡ cut (take start rest) ++ x ∷ []
+  taken_off x is same other =
+      let many = length-drop start rest in
+      let ends : EndsElsewhere (take start rest) x = λ k d h.
+      let k' : k ≡ start - 1 = omega (arith, h, length-take start rest, within) in
+      let here : get_or (take start rest) k d ≡ get_or rest (start - 1) d = get_or-take start rest k d (omega (arith, h, length-take start rest)) ∙ ap (λ (n : ℕ). get_or rest n d) k' in
+      let last = length rest - 1 - start in
+      let h' : last < length x.detections = rw same (omega (arith, many, within)) in
+      let end : start + last ≡ length rest - 1 = omega (arith, within) in
+      let there : get_or x.detections last d ≡ get_or rest (length rest - 1) d = ap (λ (ds : Ds). get_or ds last d) same ∙ (get_or-drop start rest last d ∙ ap (λ (n : ℕ). get_or rest n d) end) in
+      rw here (elsewhere (get_or rest (start - 1) d) (get_or rest (length rest - 1) d) x (rw there at (is.one_epoch last d h')) (rw there at (is.one_site last d h')) (other d (omega (arith, h, length-take start rest)))) in
+      ap cut (sym (take-append-drop start rest) ∙ ap (λ (ds : Ds). take start rest ++ ds) (sym same))
+      ∙ cut_last (take start rest) x (cut_whole x (one_exposure x is)) ends
+
+-- one between two of one exposure is of it too
+between : (first x last : Observation) → NotAfter first x → NotAfter x last → IsOfOneExposure first last → IsOfOneExposure x last
+between first x last h k one =
+    let same : at last ≡ at first = sym (place_is (at first) (at last) one.0 one.1) in
+    let back : is_gt (by_place (at x) (at first)) ≡ false = subst (λ p. is_gt (by_place (at x) p) ≡ false) same (no_later_place x last k) in
+    let level = equal_from_no_greater (by_place (at x) (at first)) (by_place (at first) (at x)) (place_total.antisymm (at x) (at first)) back (no_later_place first x h) in
+    let here = same_place (at x) (at first) level in
+    (here.0 ∙ one.0, here.1 ∙ one.1)
+
+pub all_of_one : (ds : Ds) (first last : Observation) → AllPairs NotAfter ds → first ≡ get_or ds 0 first → last ≡ get_or ds (length ds - 1) last → IsOfOneExposure first last
+    → (k : ℕ) (d : Observation) → 0 ≤ k → k < length ds → IsOfOneExposure (get_or ds k d) (get_or ds (length ds - 1) d)
+all_of_one ds first last rise f l one k d low h =
+    let f' : get_or ds 0 d ≡ first = get_or_default ds 0 d first (omega (arith, h)) ∙ sym f in
+    let l' : get_or ds (length ds - 1) d ≡ last = get_or_default ds (length ds - 1) d last (omega (arith, h)) ∙ sym l in
+    elim (cases_eq k 0) [
+      | inl e ↦ rw (e, f', l') one
+      | inr some ↦ elim (cases_eq k (length ds - 1)) [
+        | inl e ↦ rw e (refl, refl)
+        | inr ne ↦
+            let a : NotAfter first (get_or ds k d) = subst (λ x. NotAfter x (get_or ds k d)) f' (rise 0 k d (omega (arith, some)) h) in
+            let b : NotAfter (get_or ds k d) last = subst (λ x. NotAfter (get_or ds k d) x) l' (rise k (length ds - 1) d (omega (arith, ne, h)) (omega (arith, h))) in
+            rw l' (between first (get_or ds k d) last a b one)
+      ]
+    ]
+
+-- from a place on all are of one exposure with the last
+pub record EndsWithOne (ds : Ds) (start : ℕ) : Type 0 where
+  pub within : start < length ds
+  pub of_one : (k : ℕ) (d : Observation) → start ≤ k → k < length ds → IsOfOneExposure (get_or ds k d) (get_or ds (length ds - 1) d)
+
+-- what holds as exposures are cut off, the last first
+pub record Cut (whole rest : Ds) (exposures : List ExposureData) : Type 0 where
+  pub few : length rest < 2 ^ 32
+  pub rising : AllPairs NotAfter rest
+  pub cut_so_far : cut rest ++ reverse exposures ≡ cut whole
+
+pub one_more : (whole rest : Ds) (exposures : List ExposureData) (start : ℕ) (x : ExposureData) → Cut whole rest exposures → start < length rest → cut rest ≡ cut (take start rest) ++ x ∷ []
+    → Cut whole (take start rest) (exposures ++ x ∷ [])
+one_more whole rest exposures start x c within is = record {
+  few = omega (arith, c.few, within, length-take start rest);
+  rising = front_rises rest start within c.rising;
+  cut_so_far = ap (λ (xs : List ExposureData). cut (take start rest) ++ xs) (reverse-append exposures (x ∷ []))
+      ∙ (sym (append_assoc (cut (take start rest)) (x ∷ []) (reverse exposures)) ∙ (ap (λ (xs : List ExposureData). xs ++ reverse exposures) (sym is) ∙ c.cut_so_far));
+}
+
+pub all_cut : (whole rest : Ds) (exposures : List ExposureData) → AllPairs NotAfter whole → length rest ≡ 0 → Cut whole rest exposures
+    → AllPairs Precedes (reverse exposures) × All IsOneExposure (reverse exposures) × (joined (reverse exposures) ≡ whole)
+all_cut whole [] exposures rise h c = rw c.cut_so_far (cut_in_order whole rise, cut_each whole rise, cut_joined whole)
+all_cut whole (d ∷ ds) exposures rise h c = absurd (omega (arith, h))

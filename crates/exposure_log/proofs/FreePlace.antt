@@ -8,7 +8,7 @@ use Rattle.std.specs.declared.cmp.Ordering.TheVariants.{Less, Greater}
 use Rattle.sky_math.specs.Night.{night_at}
 use Rattle.miti_text.specs.Observation.{Observation}
 use Rattle.exposure_log.specs.declared.numbered.NumberedExposure.{NumberedExposure}
-use Rattle.exposure_log.specs.Held.{HeldExposure, IsFreePlace, of_night, place_cmp}
+use Rattle.exposure_log.specs.Held.{HeldExposure, IsFreePlace, of_night, exposure_cmp}
 use Rattle.exposure_log.specs.Nights.{IsFree, is_of_night}
 use Rattle.exposure_log.specs.Numbered.{numbered_cmp, exposure_of}
 use Rattle.exposure_log.proofs.Searching.{filter_map_is}
@@ -31,8 +31,8 @@ among_exposures slots listed epoch site i h parts =
     let len = length_map (exposure_of slots) listed in
     record {
       within = omega (arith, h, len);
-      earlier = λ k d low high. at_place (λ x. place_cmp epoch site x ≡ Less) (exposure_of slots) listed k d (omega (arith, high, h)) (λ g. parts.0 k g low high);
-      later = λ k d low high. at_place (λ x. place_cmp epoch site x ≡ Greater) (exposure_of slots) listed k d (omega (arith, high, len)) (λ g. parts.1 k g low (omega (arith, high, len)));
+      earlier = λ k d low high. at_place (λ x. exposure_cmp epoch site x ≡ Less) (exposure_of slots) listed k d (omega (arith, high, h)) (λ g. parts.0 k g low high);
+      later = λ k d low high. at_place (λ x. exposure_cmp epoch site x ≡ Greater) (exposure_of slots) listed k d (omega (arith, high, len)) (λ g. parts.1 k g low (omega (arith, high, len)));
     }
 
 among_listed : (slots : Slots) (listed : List NumberedExposure) (epoch : ℤ) (site : List ℕ) (i : ℕ) → IsFreePlace epoch site (map (exposure_of slots) listed) i

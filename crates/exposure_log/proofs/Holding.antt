@@ -1,23 +1,23 @@
 -- An exposure that nothing stands against is held: its exposure stands at its place, its detections have their numbers.
-use Rattle.std.proofs.Common.{◌≡◌, ◌≢◌, ℕ, ◌+◌, ◌<◌, ◌^◌, ◌==◌, ℤ, true, false, Option, Some, None, IsTrue, List, [], ◌∷◌, length, get_or, map, ap, ◌∙◌, arith, suc, inl, inr}
+use Rattle.std.proofs.Common.{◌≡◌, ◌≢◌, ℕ, ◌+◌, ◌<◌, ◌^◌, ◌==◌, ℤ, true, false, Option, Some, None, IsTrue, List, [], ◌∷◌, length, get_or, map, sym, subst, ap, ◌∙◌, arith, suc, inl, inr}
 use Rattle.std.specs.List.{All, Contains, list_any}
 use Rattle.std.specs.Map.{lookup}
 use Rattle.std.proofs.lemmas.Bool.{cases_Bool, eqb-true}
 use Rattle.miti_text.specs.Observation.{Observation, is_id}
 use Rattle.exposure_log.specs.declared.numbered.NumberedExposure.{NumberedExposure}
 use Rattle.number_register.specs.Numbering.{slot, count_held}
-use Rattle.exposure_log.specs.Held.{ExposureData, TakesIn, detections_of, with_exposure, refusal}
+use Rattle.exposure_log.specs.Held.{ExposureData, TakesIn, held_at, detections_of, with_exposure, refusal}
 use Rattle.exposure_log.specs.Exposures.{IsExposure}
 use Rattle.exposure_log.specs.Numbered.{IsNumbered, AreListed, exposure_of}
-use Rattle.number_register.specs.Numbering.{Takes}
+use Rattle.number_register.specs.Numbering.{Takes, TakeLeast}
 use Rattle.exposure_log.specs.Nights.{PutsIn}
 use Rattle.exposure_log.specs.Orderly.{IsOrderly}
-use Rattle.exposure_log.proofs.Gathering.{one_exposure}
+use Rattle.exposure_log.proofs.Cutting.{one_exposure}
 use Rattle.exposure_log.proofs.HeldList.{held_is, count_is}
 use Rattle.exposure_log.proofs.Inserting.{listed_with, exposures_with, same_exposures}
 use Rattle.exposure_log.proofs.Keeping.{taking_keeps_order}
 use Rattle.exposure_log.proofs.Logs.{with_held}
-use Rattle.exposure_log.proofs.NewlyNumbered.{new_numbered, has, entry_numbers, entry_detections, among_held, least_numbers}
+use Rattle.exposure_log.proofs.NewlyNumbered.{new_numbered, has, entry_numbers, entry_detections}
 use Rattle.number_register.proofs.Takings.{taken_was_free, other_stays, as_many}
 use Rattle.exposure_log.proofs.Unrefused.{IsUnrefused, unrefused, fresh_ids, apart_ids}
 
@@ -73,7 +73,7 @@ module _ (shift : ℤ) (window : Option (ℤ × ℤ)) (slots : Slots) (listed : 
         let each = has slots slots' x g is epoch site t.least t.is apart_in_list in
         let kept = same_exposures slots slots' listed g put.0 put.1.0 a is_numbered put.1.1 was_free others in
         let numbers = entry_numbers slots' g.numbers.items (λ k h. let d = each k h in (d.0, d.1.0)) in
-        let least = least_numbers (slot slots) (map (λ d. d.0) (detections_of (map (exposure_of slots) listed))) g.numbers.items x.detections (among_held slots listed a) t.least in
+        let least : TakeLeast (held_at (map (exposure_of slots) listed)) g.numbers.items x.detections = subst (λ at. TakeLeast at g.numbers.items x.detections) (λ i n. sym (held_is slots listed a n) i) t.least in
         let xs : map (exposure_of slots') listed' ≡ with_exposure (exposure_of slots' g) (map (exposure_of slots) listed) =
         rw put.2 (exposures_with listed g put.0 put.1.0 a.in_order put.1.1 slots slots' kept) in
         record {

@@ -1,19 +1,21 @@
 -- Each log is orderly: with nothing held, and once nights are counted anew, the window is moved, or an exposure is taken in or out.
-use Rattle.std.proofs.Common.{◌≡◌, ◌≢◌, ℕ, ◌+◌, ◌<◌, ◌≤◌, ◌==◌, ℤ, pos, ◌-ℤ◌, ◌≤ℤ◌, Bool, true, false, not, ◌||◌, cond, if◌then◌else◌, Option, Some, None, IsTrue, List, [], ◌∷◌, ◌++◌, map, length, length-append, get_or, zero, suc, refl, sym, ap, ◌∙◌, subst, inl, inr, ◌⊎◌, arith, eq-eqb}
+use Rattle.std.proofs.Common.{◌≡◌, ◌≢◌, ℕ, ◌+◌, ◌<◌, ◌≤◌, ◌==◌, ℤ, pos, ◌-ℤ◌, ◌≤ℤ◌, Bool, true, false, not, ◌||◌, cond, if◌then◌else◌, Option, Some, None, IsSome, IsTrue, List, [], ◌∷◌, ◌++◌, map, length, length-append, get_or, zero, suc, refl, sym, ap, ◌∙◌, subst, inl, inr, ◌⊎◌, arith, eq-eqb}
 use Rattle.std.specs.Int.Signed.{lt_z, le_z}
 use Rattle.std.specs.List.{All, AllPairs, Contains, filter, flat_map, list_any}
 use Rattle.std.specs.List.Sorted.{IsStrictlySortedBy}
+use Rattle.std.specs.Map.{lookup}
 use Rattle.std.specs.Option.{option_map_or}
 use Rattle.std.specs.Ordering.{int_cmp, nat_cmp, ordering_then, ordering_reverse, is_lt, is_eq, is_gt}
 use Rattle.std.specs.Cmp.Lexicographic.{slice_cmp}
 use Rattle.std.specs.declared.cmp.Ordering.{Ordering}
 use Rattle.std.specs.declared.cmp.Ordering.TheVariants.{Less, Equal, Greater}
-use Rattle.std.proofs.lemmas.Bool.{cases_Bool, cases_order, false≢true, or_parts}
+use Rattle.std.proofs.lemmas.Bool.{cases_Bool, cases_eq, cases_lt, cases_order, false≢true, or_parts}
 use Rattle.std.proofs.lemmas.Cmp.{int_cmp_total, nat_list_cmp_total, tied_itself}
 use Rattle.std.proofs.lemmas.Grind.{flat_map-append}
 use Rattle.std.proofs.lemmas.Int.{ints}
 use Rattle.std.proofs.lemmas.List.{length-map, map-append, get_or_default}
 use Rattle.std.proofs.lemmas.List.Elements.{All-nil, All-cons, All-head, All-tail, All-append, All-filter, All-map, Contains-append_left, Contains-append_right, Contains-append_cases, filter_passes, filter-append}
+use Rattle.std.proofs.lemmas.List.Folds.{list_any_at}
 use Rattle.std.proofs.lemmas.List.Kept.{AllPairs-cons, AllPairs-filter}
 use Rattle.std.proofs.lemmas.Map.Lookups.{exact_bytes}
 use Rattle.std.proofs.Math.ListN.{get_or-map}
@@ -21,7 +23,9 @@ use Rattle.sky_math.specs.Night.{night_at}
 use Rattle.sky_units.specs.Limits.{most_nights}
 use Rattle.miti_text.specs.Observation.{Observation, is_id}
 use Rattle.miti_text.specs.CanonicalOrder.{canonical_cmp}
-use Rattle.exposure_log.specs.Held.{LogData, HeldExposure, ExposureData, TakesIn, AreLeastNumbers, is_among, detections_of, place_cmp, stands_before, stands_at, stands_after, with_exposure, without_exposure, held_refusal, refusal, window_refusal, moved}
+use Rattle.exposure_log.specs.Held.{LogData, HeldExposure, ExposureData, TakesIn, held_at, detections_of, exposure_cmp, stands_before, stands_at, stands_after, with_exposure, without_exposure, held_refusal, refusal, window_refusal, moved}
+use Rattle.number_register.specs.Numbering.{TakeLeast, AreDistinct}
+use Rattle.number_register.proofs.Takings.{taken_was_free, taken_are_distinct}
 use Rattle.exposure_log.specs.Deliveries.{IsOneExposure}
 use Rattle.exposure_log.specs.Orderly.{IsInside, LieInWindow, GoesBefore, HasSome, AreOfOneExposure, HasIds, HaveNumbersApart, HaveIdsApart, IsOrderly}
 use Rattle.exposure_log.specs.declared.errors.AddError.{AddError}
@@ -191,7 +195,7 @@ place x = (x.epoch, x.site)
 
 -- an exposure that stands behind another is gone before by it
 behind_is : (x y : HeldExposure) → stands_after x.epoch x.site y ≡ true → GoesBefore x y
-behind_is x y h = less_back (place_cmp y.epoch y.site x) (place_cmp x.epoch x.site y) (place_total.antisymm (place x) (place y)) h
+behind_is x y h = less_back (exposure_cmp y.epoch y.site x) (exposure_cmp x.epoch x.site y) (place_total.antisymm (place x) (place y)) h
 
 -- detections of an exposure and of a later one
 below : (x y : HeldExposure) → AreOfOneExposure x → AreOfOneExposure y → GoesBefore x y → AllBelow canonical_cmp (seen x) (seen y)
@@ -238,7 +242,7 @@ all_with P x xs here h =
     All-append P (ahead x xs) (x ∷ behind x xs) (All-filter (stands_before x.epoch x.site) P xs h) (All-cons P x (behind x xs) here (All-filter (stands_after x.epoch x.site) P xs h))
 
 goes_ahead : (x : HeldExposure) (xs : List HeldExposure) → All (λ y. GoesBefore y x) (ahead x xs)
-goes_ahead x xs k d l = less_from (place_cmp x.epoch x.site (get_or (ahead x xs) k d)) (filter_passes (stands_before x.epoch x.site) xs k d l)
+goes_ahead x xs k d l = less_from (exposure_cmp x.epoch x.site (get_or (ahead x xs) k d)) (filter_passes (stands_before x.epoch x.site) xs k d l)
 
 goes_behind : (x : HeldExposure) (xs : List HeldExposure) → All (GoesBefore x) (behind x xs)
 goes_behind x xs k d l = behind_is x (get_or (behind x xs) k d) (filter_passes (stands_after x.epoch x.site) xs k d l)
@@ -275,29 +279,39 @@ number_among ys y h =
     let lt : h.0 < length (map (λ (d : Entry). d.0) ys) = omega (arith, h.1, length-map ys (λ (d : Entry). d.0)) in
     (h.0, lt, get_or-map (λ (d : Entry). d.0) ys h.0 y ∙ ap (λ (d : Entry). d.0) h.2)
 
-among : (n : ℕ) (ks : List ℕ) (k : ℕ) → k < length ks → get_or ks k n ≡ n → is_among n ks ≡ true
-among n [] k lt e = absurd (omega arith)
-among n (m ∷ ms) zero lt e = rw (eq-eqb m n e) refl
-among n (m ∷ ms) (suc k) lt e = elim (cases_Bool (m == n)) [ inl t ↦ rw t refl | inr f ↦ rw f (among n ms k (omega arith) e) ]
+among : (n : ℕ) (ks : List ℕ) → Contains ks n → list_any (λ k. k == n) ks ≡ true
+among n ks h = list_any_at (λ k. k == n) ks h.0 n h.1 (eq-eqb (get_or ks h.0 n) n h.2)
 
-fresh : (taken ns : List ℕ) → AreLeastNumbers taken ns → (n k : ℕ) → k < length ns → get_or ns k n ≡ n → is_among n taken ≡ true → ⊥
-fresh taken [] a n k lt e t = omega arith
-fresh taken (m ∷ ms) a n zero lt e t = false≢true (sym a.0.is_free ∙ rw e t)
-fresh taken (m ∷ ms) a n (suc k) lt e t = fresh (m ∷ taken) ms a.1 n k (omega arith) e (elim (cases_Bool (m == n)) [ inl y ↦ rw y refl | inr f ↦ rw f t ])
+-- a number of a list of entries has some detection there
+has_some : (n : ℕ) (d : Observation) (es : List Entry) (k : ℕ) → k < length es → get_or es k (n, d) ≡ (n, d) → IsSome (lookup (λ m. m == n) es)
+has_some n d [] k lt e = absurd (omega arith)
+has_some n d (x ∷ es) zero lt e = rw (eq-eqb x.0 n (ap (λ (z : Entry). z.0) e)) refl
+has_some n d (x ∷ es) (suc k) lt e = elim (cases_Bool (x.0 == n)) [ inl t ↦ rw t refl | inr f ↦ rw f (has_some n d es k (omega arith) e) ]
 
-unlike : (taken ns : List ℕ) → AreLeastNumbers taken ns → (n : ℕ) → Contains ns n → Contains taken n → ⊥
-unlike taken ns a n h t = fresh taken ns a n h.0 h.1 h.2 (among n taken t.0 t.1 t.2)
+clash : (held : Option Observation) → held ≡ None → IsSome held → ⊥
+clash None e h = cc
+clash (Some d) e h = cc
 
-one_number : (taken : List ℕ) (ys : List Entry) → AreLeastNumbers taken (map (λ d. d.0) ys) → (n : ℕ) (d e : Observation) (i j : ℕ) → i < length ys → get_or ys i (n, d) ≡ (n, d) → j < length ys → get_or ys j (n, e) ≡ (n, e) → d ≡ e
-one_number taken [] a n d e i j li p lj q = absurd (omega arith)
-one_number taken (y ∷ ys) a n d e zero zero li p lj q = ap (λ (z : Entry). z.1) (sym p ∙ q)
-one_number taken (y ∷ ys) a n d e zero (suc j) li p lj q =
-    let first : y.0 ≡ n = ap (λ (z : Entry). z.0) p in
-    absurd (unlike (y.0 ∷ taken) (map (λ d. d.0) ys) a.1 n (number_among ys (n, e) (j, omega arith, q)) (0, omega arith, first))
-one_number taken (y ∷ ys) a n d e (suc i) zero li p lj q =
-    let first : y.0 ≡ n = ap (λ (z : Entry). z.0) q in
-    absurd (unlike (y.0 ∷ taken) (map (λ d. d.0) ys) a.1 n (number_among ys (n, d) (i, omega arith, p)) (0, omega arith, first))
-one_number taken (y ∷ ys) a n d e (suc i) (suc j) li p lj q = one_number (y.0 ∷ taken) ys a.1 n d e i j (omega arith) p (omega arith) q
+-- a number that is taken is none of those that have detections
+unlike : (es : List Entry) (ns : List ℕ) (ds : List Observation) → TakeLeast (λ n. lookup (λ m. m == n) es) ns ds → (n : ℕ) (d : Observation) → Contains ns n → Contains es (n, d) → ⊥
+unlike es ns ds t n d h k = clash (lookup (λ m. m == n) es) (taken_was_free (λ m. lookup (λ k. k == m) es) ns ds t n (among n ns h)) (has_some n d es k.0 k.1 k.2)
+
+number_at : (ys : List Entry) (n : ℕ) (d : Observation) (h : Contains ys (n, d)) → (h.0 < length (map (λ y. y.0) ys)) × (get_or (map (λ y. y.0) ys) h.0 0 ≡ n)
+number_at ys n d h =
+    let lt : h.0 < length (map (λ (y : Entry). y.0) ys) = omega (arith, h.1, length-map ys (λ (y : Entry). y.0)) in
+    (lt, get_or_default (map (λ (y : Entry). y.0) ys) h.0 0 n lt ∙ (get_or-map (λ (y : Entry). y.0) ys h.0 (n, d) ∙ ap (λ (y : Entry). y.0) h.2))
+
+one_number : (ys : List Entry) → AreDistinct (map (λ d. d.0) ys) → (n : ℕ) (d e : Observation) → Contains ys (n, d) → Contains ys (n, e) → d ≡ e
+one_number ys apart n d e h k = elim (cases_eq h.0 k.0) [
+  | inl eq ↦ ap (λ (z : Entry). z.1) (sym h.2 ∙ (get_or_default ys h.0 (n, d) (n, e) h.1 ∙ (ap (λ (i : ℕ). get_or ys i (n, e)) eq ∙ k.2)))
+  | inr ne ↦
+      let one = number_at ys n d h in
+      let other = number_at ys n e k in
+      elim (cases_lt h.0 k.0) [
+        | inl lt ↦ absurd (apart h.0 k.0 lt other.0 (one.1 ∙ sym other.1))
+        | inr ge ↦ absurd (apart k.0 h.0 (omega (arith, ne, ge)) one.0 (other.1 ∙ sym one.1))
+      ]
+]
 
 among_with : (x : HeldExposure) (xs : List HeldExposure) (y : Entry) → Contains (detections_of (with_exposure x xs)) y → Contains (detections_of xs) y ⊎ Contains x.detections y
 among_with x xs y h =
@@ -311,15 +325,15 @@ among_with x xs y h =
       ]
     ]
 
-numbers_with : (x : HeldExposure) (xs : List HeldExposure) → AreLeastNumbers (map (λ d. d.0) (detections_of xs)) (map (λ d. d.0) x.detections) → HaveNumbersApart xs → HaveNumbersApart (with_exposure x xs)
-numbers_with x xs a h n d e p q = elim (among_with x xs (n, d) p) [
+numbers_with : (x : HeldExposure) (xs : List HeldExposure) (ds : List Observation) → TakeLeast (held_at xs) (map (λ d. d.0) x.detections) ds → HaveNumbersApart xs → HaveNumbersApart (with_exposure x xs)
+numbers_with x xs ds t h n d e p q = elim (among_with x xs (n, d) p) [
   | inl b ↦ elim (among_with x xs (n, e) q) [
     | inl c ↦ h n d e b c
-    | inr c ↦ absurd (unlike (map (λ d. d.0) (detections_of xs)) (map (λ d. d.0) x.detections) a n (number_among x.detections (n, e) c) (number_among (detections_of xs) (n, d) b))
+    | inr c ↦ absurd (unlike (detections_of xs) (map (λ d. d.0) x.detections) ds t n d (number_among x.detections (n, e) c) b)
   ]
   | inr b ↦ elim (among_with x xs (n, e) q) [
-    | inl c ↦ absurd (unlike (map (λ d. d.0) (detections_of xs)) (map (λ d. d.0) x.detections) a n (number_among x.detections (n, d) b) (number_among (detections_of xs) (n, e) c))
-    | inr c ↦ one_number (map (λ d. d.0) (detections_of xs)) x.detections a n d e b.0 c.0 b.1 b.2 c.1 c.2
+    | inl c ↦ absurd (unlike (detections_of xs) (map (λ d. d.0) x.detections) ds t n e (number_among x.detections (n, d) b) c)
+    | inr c ↦ one_number x.detections (taken_are_distinct (held_at xs) (map (λ d. d.0) x.detections) ds t) n d e b c
   ]
 ]
 
@@ -374,7 +388,7 @@ two_kept Greater x before after xs h = omega (arith, h, length-append x.detectio
 
 parted : (epoch : ℤ) (site : List ℕ) (xs : List HeldExposure) → length (detections_of (filter (stands_before epoch site) xs)) + length (detections_of (filter (stands_after epoch site) xs)) ≤ length (detections_of xs)
 parted epoch site [] = omega arith
-parted epoch site (x ∷ xs) = two_kept (place_cmp epoch site x) x (filter (stands_before epoch site) xs) (filter (stands_after epoch site) xs) xs (parted epoch site xs)
+parted epoch site (x ∷ xs) = two_kept (exposure_cmp epoch site x) x (filter (stands_before epoch site) xs) (filter (stands_after epoch site) xs) xs (parted epoch site xs)
 
 few_with : (x : HeldExposure) (xs : List HeldExposure) → length (detections_of (with_exposure x xs)) ≤ length (detections_of xs) + length x.detections
 few_with x xs =
@@ -418,7 +432,7 @@ module _ (old new : LogData) (x : ExposureData) (one : IsOneExposure x) (ids : A
         one_by_one = one_by_one_with a.held old.exposures o.one_by_one;
         some = all_with HasSome a.held old.exposures some o.some;
         of_one = all_with AreOfOneExposure a.held old.exposures is_one o.of_one;
-        numbers = numbers_with a.held old.exposures a.numbers o.numbers;
+        numbers = numbers_with a.held old.exposures x.detections a.numbers o.numbers;
         ids_apart = ids_with a.held old.exposures x.detections a.detections (fresh_ids old.exposures x.detections free.untaken) apart o.ids_apart;
         ids = all_with HasIds a.held old.exposures (of_seen (λ (d : Observation). IsTrue (is_id d.id)) a.held.detections (rw a.detections ids)) o.ids;
         few = omega (arith, few_with a.held old.exposures, as_many, free.room);
@@ -430,15 +444,15 @@ module _ (old new : LogData) (x : ExposureData) (one : IsOneExposure x) (ids : A
 abbrev but_at : ℤ → List ℕ → HeldExposure → Bool
 but_at epoch site x = not (stands_at epoch site x)
 
-rejoined_by : (epoch : ℤ) (site : List ℕ) (x : HeldExposure) (xs : List HeldExposure) (r : Ordering) → place_cmp epoch site x ≡ r → All (GoesBefore x) xs → list_any (stands_at epoch site) (x ∷ xs) ≡ false
+rejoined_by : (epoch : ℤ) (site : List ℕ) (x : HeldExposure) (xs : List HeldExposure) (r : Ordering) → exposure_cmp epoch site x ≡ r → All (GoesBefore x) xs → list_any (stands_at epoch site) (x ∷ xs) ≡ false
     → filter (stands_before epoch site) xs ++ filter (stands_after epoch site) xs ≡ xs → filter (stands_before epoch site) (x ∷ xs) ++ filter (stands_after epoch site) (x ∷ xs) ≡ x ∷ xs
 rejoined_by epoch site x xs Less e up none rest = rw e (ap (λ (ys : List HeldExposure). x ∷ ys) rest)
 rejoined_by epoch site x xs Equal e up none rest = let no = rw e at none in cc
 rejoined_by epoch site x xs Greater e up none rest =
     let first = place_total.antisymm (epoch, site) (place x) in
-    let lower = less_back (ordering_then (int_cmp epoch x.epoch) (slice_cmp nat_cmp site x.site)) (place_cmp epoch site x) first (ap is_gt e) in
+    let lower = less_back (ordering_then (int_cmp epoch x.epoch) (slice_cmp nat_cmp site x.site)) (exposure_cmp epoch site x) first (ap is_gt e) in
     let nothing : filter (stands_before epoch site) xs ≡ [] =
-    filter_none (stands_before epoch site) xs (λ k d l. ap is_lt (greater_back (place_cmp epoch site (get_or xs k d)) (ordering_then (int_cmp epoch (get_or xs k d).epoch) (slice_cmp nat_cmp site (get_or xs k d).site))
+    filter_none (stands_before epoch site) xs (λ k d l. ap is_lt (greater_back (exposure_cmp epoch site (get_or xs k d)) (ordering_then (int_cmp epoch (get_or xs k d).epoch) (slice_cmp nat_cmp site (get_or xs k d).site))
     (place_total.antisymm (place (get_or xs k d)) (epoch, site)) (place_total.trans (epoch, site) (place x) (place (get_or xs k d)) lower (up k d l)))) in
     let rest' : filter (stands_after epoch site) xs ≡ xs = rw nothing at rest in
     rw (e, nothing) (ap (λ (ys : List HeldExposure). x ∷ ys) rest')
@@ -446,16 +460,16 @@ rejoined_by epoch site x xs Greater e up none rest =
 rejoined : (epoch : ℤ) (site : List ℕ) (xs : List HeldExposure) → AllPairs GoesBefore xs → list_any (stands_at epoch site) xs ≡ false → filter (stands_before epoch site) xs ++ filter (stands_after epoch site) xs ≡ xs
 rejoined epoch site [] h none = refl
 rejoined epoch site (x ∷ xs) h none =
-    rejoined_by epoch site x xs (place_cmp epoch site x) refl (λ k d l. h 0 (suc k) d (omega arith) (omega arith)) none
+    rejoined_by epoch site x xs (exposure_cmp epoch site x) refl (λ k d l. h 0 (suc k) d (omega arith) (omega arith)) none
     (rejoined epoch site xs (λ i j d l m. h (suc i) (suc j) d (omega arith) (omega arith)) (or_parts (stands_at epoch site x) (list_any (stands_at epoch site) xs) none).1)
 
 out_again : (x : HeldExposure) (xs : List HeldExposure) → AllPairs GoesBefore xs → list_any (stands_at x.epoch x.site) xs ≡ false → without_exposure x.epoch x.site (with_exposure x xs) ≡ xs
 out_again x xs h none =
     let before : filter (but_at x.epoch x.site) (ahead x xs) ≡ ahead x xs =
-    filter_all (but_at x.epoch x.site) (ahead x xs) (λ k d l. less_is_other (place_cmp x.epoch x.site (get_or (ahead x xs) k d)) (filter_passes (stands_before x.epoch x.site) xs k d l)) in
+    filter_all (but_at x.epoch x.site) (ahead x xs) (λ k d l. less_is_other (exposure_cmp x.epoch x.site (get_or (ahead x xs) k d)) (filter_passes (stands_before x.epoch x.site) xs k d l)) in
     let after : filter (but_at x.epoch x.site) (behind x xs) ≡ behind x xs =
-    filter_all (but_at x.epoch x.site) (behind x xs) (λ k d l. greater_is_other (place_cmp x.epoch x.site (get_or (behind x xs) k d)) (filter_passes (stands_after x.epoch x.site) xs k d l)) in
-    let itself : place_cmp x.epoch x.site x ≡ Equal = tied_itself place_total (place x) in
+    filter_all (but_at x.epoch x.site) (behind x xs) (λ k d l. greater_is_other (exposure_cmp x.epoch x.site (get_or (behind x xs) k d)) (filter_passes (stands_after x.epoch x.site) xs k d l)) in
+    let itself : exposure_cmp x.epoch x.site x ≡ Equal = tied_itself place_total (place x) in
     filter-append (but_at x.epoch x.site) (ahead x xs) (x ∷ behind x xs) ∙ (rw (itself, before, after) (rejoined x.epoch x.site xs h none))
 
 pub removing_undoes : (old new : LogData) (x : ExposureData) → IsOrderly old → refusal old x ≡ None → TakesIn old new x → without_exposure x.epoch x.site new.exposures ≡ old.exposures

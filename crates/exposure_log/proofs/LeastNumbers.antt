@@ -1,33 +1,29 @@
 -- The least numbers that are left: there are some, and they are determined. So a log has one way to take an exposure.
-use Rattle.std.proofs.Common.{◌≡◌, ℕ, ◌+◌, ◌<◌, ◌≤◌, ◌==◌, ℤ, Bool, true, false, List, [], ◌∷◌, length, map, refl, sym, ap, ◌∙◌, arith, zero, suc, inl, inr}
-use Rattle.std.proofs.lemmas.Bool.{cases_lt, cases_Bool, ne_eqb, or_from}
+use Rattle.std.proofs.Common.{◌≡◌, ℕ, ◌+◌, ◌<◌, ◌≤◌, ◌==◌, ℤ, Option, Some, None, IsSome, List, [], ◌∷◌, map, refl, sym, ap, ◌∙◌, arith, zero, suc, inl, inr}
+use Rattle.std.specs.Map.{lookup}
+use Rattle.std.proofs.lemmas.Bool.{cases_lt, ne_eqb}
 use Rattle.miti_text.specs.Observation.{Observation}
-use Rattle.exposure_log.specs.Held.{HeldExposure, LogData, ExposureData, TakesIn, IsLeastNumber, AreLeastNumbers, is_among, detections_of, with_exposure}
+use Rattle.exposure_log.specs.Held.{HeldExposure, LogData, ExposureData, TakesIn, detections_of, held_at, with_exposure}
+use Rattle.number_register.specs.Numbering.{with_at, IsLeastFree, TakeLeast}
+use Rattle.number_register.proofs.FreeNumbers.{same_least, some_or}
+use Rattle.number_register.proofs.Takings.{at_other}
 use Rattle.exposure_log.proofs.Fronts.{first_same, rest_same}
+
+abbrev At : Type 0
+At = ℕ → Option Observation
 
 -- ---- the numbers are determined
 
-clash : (b : Bool) → b ≡ false → b ≡ true → ⊥
-clash b f t = let no : false ≡ true = sym f ∙ t in cc
-
-least_agree : (taken : List ℕ) (n m : ℕ) → IsLeastNumber taken n → IsLeastNumber taken m → n ≡ m
-least_agree taken n m p q = elim (cases_lt n m) [
-  | inl below ↦ absurd (clash (is_among n taken) p.is_free (q.lower_are_taken n below))
-  | inr above ↦ elim (cases_lt m n) [
-    | inl below ↦ absurd (clash (is_among m taken) q.is_free (p.lower_are_taken m below))
-    | inr level ↦ omega (arith, above, level)
-  ]
-]
-
--- as many least numbers, one after another, are the same
-numbers_agree : (taken ns ms : List ℕ) → AreLeastNumbers taken ns → AreLeastNumbers taken ms → length ns ≡ length ms → ns ≡ ms
-numbers_agree taken [] [] p q e = refl
-numbers_agree taken [] (m ∷ ms) p q e = absurd (omega arith)
-numbers_agree taken (n ∷ ns) [] p q e = absurd (omega arith)
-numbers_agree taken (n ∷ ns) (m ∷ ms) p q e =
-    let first : n ≡ m = least_agree taken n m p.0 q.0 in
-    let after : AreLeastNumbers (n ∷ taken) ms = rw first q.1 in
-    let rest : ns ≡ ms = numbers_agree (n ∷ taken) ns ms p.1 after (omega arith) in
+numbers_agree : (at : At) (ns ms : List ℕ) (ds : List Observation) → TakeLeast at ns ds → TakeLeast at ms ds → ns ≡ ms
+numbers_agree at [] [] ds p q = refl
+numbers_agree at [] (m ∷ ms) [] p q = absurd q
+numbers_agree at [] (m ∷ ms) (d ∷ ds) p q = absurd p
+numbers_agree at (n ∷ ns) ms [] p q = absurd p
+numbers_agree at (n ∷ ns) [] (d ∷ ds) p q = absurd q
+numbers_agree at (n ∷ ns) (m ∷ ms) (d ∷ ds) p q =
+    let first : n ≡ m = same_least at n m p.0 q.0 in
+    let after : TakeLeast (with_at at n (Some d)) ms ds = rw first q.1 in
+    let rest : ns ≡ ms = numbers_agree (with_at at n (Some d)) ns ms ds p.1 after in
     cc
 
 abbrev pair_of : {A B : Type 0} → A → B → A × B
@@ -44,12 +40,6 @@ columns_agree (x ∷ xs) (y ∷ ys) p q =
     let rest = columns_agree xs ys (rest_same x.0 y.0 (map (λ z. z.0) xs) (map (λ z. z.0) ys) p) (rest_same x.1 y.1 (map (λ z. z.1) xs) (map (λ z. z.1) ys) q) in
     ap (λ a. pair_of a x.1 ∷ xs) left ∙ (ap (λ b. pair_of y.0 b ∷ xs) right ∙ ap (λ zs. y ∷ zs) rest)
 
-as_many : {A B C : Type 0} (f : A → B) (g : A → C) (xs ys : List A) → map g xs ≡ map g ys → length (map f xs) ≡ length (map f ys)
-as_many f g [] [] e = refl
-as_many f g [] (y ∷ ys) e = cc
-as_many f g (x ∷ xs) [] e = cc
-as_many f g (x ∷ xs) (y ∷ ys) e = ap suc (as_many f g xs ys (rest_same (g x) (g y) (map g xs) (map g ys) e))
-
 abbrev held_as : ℤ → List ℕ → List (ℕ × Observation) → HeldExposure
 held_as epoch site detections = record { epoch = epoch; site = site; detections = detections }
 
@@ -60,53 +50,51 @@ held_agree one other e s d =
 pub add_is_unique : (old one other : LogData) (x : ExposureData) → TakesIn old one x → TakesIn old other x → one ≡ other
 add_is_unique old one other x p q =
     let seconds = p.detections ∙ sym q.detections in
-    let firsts = numbers_agree (map (λ d. d.0) (detections_of old.exposures)) (map (λ d. d.0) p.held.detections) (map (λ d. d.0) q.held.detections) p.numbers q.numbers (as_many (λ d. d.0) (λ d. d.1) p.held.detections q.held.detections seconds) in
+    let firsts = numbers_agree (held_at old.exposures) (map (λ d. d.0) p.held.detections) (map (λ d. d.0) q.held.detections) x.detections p.numbers q.numbers in
     let held = held_agree p.held q.held (p.epoch ∙ sym q.epoch) (p.site ∙ sym q.site) (columns_agree p.held.detections q.held.detections firsts seconds) in
     p.is ∙ (ap (λ (h : HeldExposure). record old { exposures = with_exposure h old.exposures }) held ∙ sym q.is)
 
 -- ---- there are some
 
 -- a number above all that are taken
-abbrev above : List ℕ → ℕ
+abbrev above : List (ℕ × Observation) → ℕ
 above [] = 0
-above (k ∷ ks) = k + 1 + above ks
+above (e ∷ es) = e.0 + 1 + above es
 
-above_is_free : (taken : List ℕ) (n : ℕ) → above taken ≤ n → is_among n taken ≡ false
+above_is_free : (es : List (ℕ × Observation)) (n : ℕ) → above es ≤ n → lookup (λ k. k == n) es ≡ None
 above_is_free [] n h = refl
-above_is_free (k ∷ ks) n h = or_from (k == n) (is_among n ks) (ne_eqb k n (λ e. omega (arith, e, h))) (above_is_free ks n (omega (arith, h)))
+above_is_free (e ∷ es) n h = rw (ne_eqb e.0 n (λ q. omega (arith, q, h))) (above_is_free es n (omega (arith, h)))
 
--- all below n + 1 are taken, where all below n and n are
-one_more_taken : (taken : List ℕ) (n : ℕ) → ((k : ℕ) → k < n → is_among k taken ≡ true) → is_among n taken ≡ true → (k : ℕ) → k < n + 1 → is_among k taken ≡ true
-one_more_taken taken n lower here k h = elim (cases_lt k n) [
-  | inl below ↦ lower k below
-  | inr level ↦ let e : k ≡ n = omega (arith, level, h) in rw e here
+-- from the latest number on nothing is held
+abbrev EndsBy : At → ℕ → Type 0
+EndsBy at last = (k : ℕ) → last ≤ k → at k ≡ None
+
+-- the search from n upwards ends at the latest there
+search_up : (at : At) (last fuel n : ℕ) → EndsBy at last → last ≤ n + fuel → ((k : ℕ) → k < n → IsSome (at k)) → (m : ℕ) × IsLeastFree at m
+search_up at last zero n ends h lower = (n, record { is_free = ends n (omega (arith, h)); lower_are_taken = lower })
+search_up at last (suc fuel) n ends h lower = elim (some_or (at n)) [
+  | inl free ↦ (n, record { is_free = free; lower_are_taken = lower })
+  | inr here ↦ search_up at last fuel (n + 1) ends (omega (arith, h)) (λ k l. elim (cases_lt k n) [
+    | inl below ↦ lower k below
+    | inr level ↦ let e : k ≡ n = omega (arith, level, l) in rw e here
+  ])
 ]
-
--- the search from n upwards ends at the latest above all that are taken
-search_up : (taken : List ℕ) (fuel n : ℕ) → above taken ≤ n + fuel → ((k : ℕ) → k < n → is_among k taken ≡ true) → (m : ℕ) × IsLeastNumber taken m
-search_up taken zero n h lower = (n, record { is_free = above_is_free taken n (omega (arith, h)); lower_are_taken = lower })
-search_up taken (suc fuel) n h lower = elim (cases_Bool (is_among n taken)) [
-  | inl here ↦ search_up taken fuel (n + 1) (omega (arith, h)) (one_more_taken taken n lower here)
-  | inr free ↦ (n, record { is_free = free; lower_are_taken = lower })
-]
-
-some_least : (taken : List ℕ) → (n : ℕ) × IsLeastNumber taken n
-some_least taken = search_up taken (above taken) 0 (omega arith) (λ k h. absurd (omega (arith, h)))
 
 -- the detections with the numbers that they take
-abbrev AreNumbered : List ℕ → List Observation → List (ℕ × Observation) → Type 0
-AreNumbered taken ds numbered = (map (λ d. d.1) numbered ≡ ds) × AreLeastNumbers taken (map (λ d. d.0) numbered)
+abbrev AreNumbered : At → List Observation → List (ℕ × Observation) → Type 0
+AreNumbered at ds numbered = (map (λ d. d.1) numbered ≡ ds) × TakeLeast at (map (λ d. d.0) numbered) ds
 
-some_numbers : (taken : List ℕ) (ds : List Observation) → (numbered : List (ℕ × Observation)) × AreNumbered taken ds numbered
-some_numbers taken [] = ([], (refl, tt))
-some_numbers taken (d ∷ ds) =
-    let first = some_least taken in
-    let rest = some_numbers (first.0 ∷ taken) ds in
+some_numbers : (at : At) (last : ℕ) → EndsBy at last → (ds : List Observation) → (numbered : List (ℕ × Observation)) × AreNumbered at ds numbered
+some_numbers at last ends [] = ([], (refl, tt))
+some_numbers at last ends (d ∷ ds) =
+    let first = search_up at last last 0 ends (omega arith) (λ k h. absurd (omega (arith, h))) in
+    let ends' : EndsBy (with_at at first.0 (Some d)) (last + first.0 + 1) = λ k h. at_other at first.0 k (Some d) (λ e. omega (arith, e, h)) ∙ ends k (omega (arith, h)) in
+    let rest = some_numbers (with_at at first.0 (Some d)) (last + first.0 + 1) ends' ds in
     ((first.0, d) ∷ rest.0, (ap (λ (xs : List Observation). d ∷ xs) rest.1.0, (first.1, rest.1.1)))
 
 pub add_exists : (old : LogData) (x : ExposureData) → (new : LogData) × TakesIn old new x
 add_exists old x =
-    let numbered = some_numbers (map (λ d. d.0) (detections_of old.exposures)) x.detections in (
+    let numbered = some_numbers (held_at old.exposures) (above (detections_of old.exposures)) (above_is_free (detections_of old.exposures)) x.detections in (
       record old { exposures = with_exposure (held_as x.epoch x.site numbered.0) old.exposures },
       record {
         held = held_as x.epoch x.site numbered.0;

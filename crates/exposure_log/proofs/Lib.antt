@@ -8,7 +8,6 @@ pub mod Inserting
 pub mod NewlyNumbered
 pub mod Refusing
 pub mod Forgetting
-pub mod Gathering
 pub mod Sorting
 pub mod Spots
 pub mod Fronts

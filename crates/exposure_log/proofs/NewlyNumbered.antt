@@ -1,24 +1,20 @@
 -- The exposure that an exposure becomes, once its detections have numbers.
-use Rattle.std.proofs.Common.{◌≡◌, ◌≢◌, ℕ, ◌<◌, ◌==◌, false, Option, Some, List, [], ◌∷◌, length, get_or, map, refl, sym, ap, ◌∙◌, arith, zero, suc, inl, inr, eq-eqb}
+use Rattle.std.proofs.Common.{◌≡◌, ◌≢◌, ℕ, ◌<◌, false, Option, Some, List, [], ◌∷◌, length, get_or, map, refl, sym, ap, ◌∙◌, arith, zero, suc}
 use Rattle.std.specs.List.{slice_index}
-use Rattle.std.specs.Option.{is_some}
-use Rattle.std.specs.Map.{lookup}
 use Rattle.std.specs.declared.cmp.Ordering.{Ordering}
 use Rattle.std.specs.declared.cmp.Ordering.TheVariants.{Less, Equal, Greater}
 use Rattle.std.specs.Ordering.{nat_cmp, is_gt}
 use Rattle.std.specs.Cmp.Lexicographic.{slice_cmp}
 use Rattle.std.proofs.lemmas.Map.Lookups.{exact_bytes}
-use Rattle.std.proofs.lemmas.Bool.{cases_Bool, cases_eq, ne_eqb}
 use Rattle.miti_text.specs.Observation.{Observation}
 use Rattle.exposure_log.specs.declared.numbered.NumberedExposure.{NumberedExposure}
 use Rattle.number_register.specs.Numbering.{slot, count_held, with_at}
-use Rattle.exposure_log.specs.Held.{ExposureData, is_among, AreLeastNumbers}
+use Rattle.exposure_log.specs.Held.{ExposureData}
 use Rattle.exposure_log.specs.Exposures.{IsExposure}
 use Rattle.exposure_log.specs.Numbered.{entries_of, exposure_of, IsNumbered, AreListed}
 use Rattle.number_register.specs.Numbering.{TakeLeast, with_all}
 use Rattle.number_register.proofs.Takings.{other_stays, not_again, as_many, at_here}
 use Rattle.exposure_log.proofs.Leaving.{kept_numbered, same_entries}
-use Rattle.exposure_log.proofs.HeldList.{held_is, held_list}
 
 abbrev Slots : Type 0
 Slots = List (Option Observation)
@@ -89,29 +85,6 @@ entry_detections slots (n ∷ ns) [] l h = absurd (omega arith)
 entry_detections slots (n ∷ ns) (d ∷ ds) l h =
     let first = h 0 (omega arith) in
     rw (first.1.0, entry_detections slots ns ds (omega arith) (λ k m. h (suc k) (omega arith))) (ap (λ (o : Observation). o ∷ ds) (sym (first.1.1 d)))
-
--- ---- the least numbers
-
-among_lookup : (n : ℕ) (es : List (ℕ × Observation)) → is_among n (map (λ d. d.0) es) ≡ is_some (lookup (λ k. k == n) es)
-among_lookup n [] = refl
-among_lookup n (e ∷ es) = elim (cases_Bool (e.0 == n)) [ inl y ↦ rw y refl | inr f ↦ rw f (among_lookup n es) ]
-
-pub among_held : (slots : Slots) (listed : List NumberedExposure) → AreListed slots listed → (n : ℕ) → is_among n (map (λ d. d.0) (held_list slots listed)) ≡ is_some (slot slots n)
-among_held slots listed a n = among_lookup n (held_list slots listed) ∙ ap is_some (held_is slots listed a n)
-
-one_taken : (at : At) (taken : List ℕ) (n : ℕ) (d : Observation) → ((k : ℕ) → is_among k taken ≡ is_some (at k)) → (k : ℕ) → is_among k (n ∷ taken) ≡ is_some (with_at at n (Some d) k)
-one_taken at taken n d says k = elim (cases_eq k n) [
-  | inl e ↦ rw (eq-eqb n k (sym e), eq-eqb k n e) refl
-  | inr ne ↦ rw (ne_eqb n k (λ q. ne (sym q)), ne_eqb k n ne) (says k)
-]
-
-pub least_numbers : (at : At) (taken : List ℕ) (ns : List ℕ) (ds : List Observation) → ((k : ℕ) → is_among k taken ≡ is_some (at k)) → TakeLeast at ns ds → AreLeastNumbers taken ns
-least_numbers at taken [] ds says t = tt
-least_numbers at taken (n ∷ ns) [] says t = absurd t
-least_numbers at taken (n ∷ ns) (d ∷ ds) says t = (
-  record { is_free = says n ∙ ap is_some t.0.is_free; lower_are_taken = λ k l. says k ∙ t.0.lower_are_taken k l },
-  least_numbers (with_at at n (Some d)) (n ∷ taken) ns ds (one_taken at taken n d says) t.1,
-)
 
 -- ---- the same slots
 

@@ -1,11 +1,11 @@
 -- Why an exposure isn't taken, by what the exposures and the slots say.
-use Rattle.std.proofs.Common.{◌≡◌, ◌≢◌, ℕ, ◌+◌, ◌<◌, ℤ, Bool, true, false, ◌||◌, Option, Some, None, List, [], ◌∷◌, length, get_or, take, map, refl, sym, ap, ◌∙◌, arith, zero, suc, inl, inr, nat_eq, length-take}
+use Rattle.std.proofs.Common.{◌≡◌, ◌≢◌, ℕ, ◌+◌, ◌<◌, ◌≤◌, ℤ, Bool, true, false, ◌||◌, Option, Some, None, List, [], ◌∷◌, length, get_or, take, map, refl, sym, ap, ◌∙◌, arith, zero, suc, inl, inr, ◌⊎◌, nat_eq, length-take}
 use Rattle.std.specs.List.{list_any, slice_get, range_with_len, filter, find}
 use Rattle.std.specs.Option.{option_map_or}
 use Rattle.std.specs.declared.cmp.Ordering.TheVariants.{Equal}
 use Rattle.std.specs.Ordering.{is_eq, int_eq}
 use Rattle.std.specs.Cmp.Lexicographic.{pointwise, bytes_decides}
-use Rattle.std.proofs.lemmas.Bool.{or_from, or_left, or_right, false_from_ne_true}
+use Rattle.std.proofs.lemmas.Bool.{cases_eq, or_from, or_left, or_right, false_from_ne_true}
 use Rattle.std.proofs.lemmas.Option.{get_or_from_slice_get}
 use Rattle.std.proofs.lemmas.List.{get_or-take}
 use Rattle.sky_math.specs.Night.{night_at}
@@ -13,7 +13,7 @@ use Rattle.miti_text.specs.Observation.{Observation}
 use Rattle.exposure_log.specs.declared.numbered.NumberedExposure.{NumberedExposure}
 use Rattle.number_register.specs.Numbering.{slot}
 use Rattle.exposure_log.specs.Held.{HeldExposure, stands_at, is_held_id, is_taken, first_taken, of_night}
-use Rattle.exposure_log.specs.Numbered.{numbered_cmp, exposure_of, AreListed, NoneTaken, IsFirstTaken, IsFresh, IsApart, IsTaken}
+use Rattle.exposure_log.specs.Numbered.{numbered_cmp, exposure_of, AreListed}
 use Rattle.exposure_log.specs.Nights.{is_of_night}
 use Rattle.exposure_log.proofs.HeldList.{none_held, some_held, any_at}
 use Rattle.exposure_log.proofs.Removing.{still_there}
@@ -56,7 +56,7 @@ defaults ds k j d x l m =
     let within : j < length ds = omega (arith, l, length-take k ds) in
     read_default ds j x d within ∙ sym (get_or-take k ds j x m)
 
-not_taken : (slots : Slots) (listed : List NumberedExposure) (ds : Ds) (k : ℕ) (o : Option Observation) → slice_get ds k ≡ o → IsFresh (slot slots) ds k → IsApart ds k
+not_taken : (slots : Slots) (listed : List NumberedExposure) (ds : Ds) (k : ℕ) (o : Option Observation) → slice_get ds k ≡ o → ((n : ℕ) (d e : Observation) → slot slots n ≡ Some d → d.id ≢ (get_or ds k e).id) → ((j : ℕ) (e : Observation) → j < k → (get_or ds j e).id ≢ (get_or ds k e).id)
     → option_map_or (λ d. is_held_id (map (exposure_of slots) listed) d.id || list_any (λ e. pointwise nat_eq e.id d.id) (take k ds)) o false ≡ false
 not_taken slots listed ds k None e fresh apart = refl
 not_taken slots listed ds k (Some d) e fresh apart =
@@ -98,7 +98,11 @@ is_there [] i h e = omega arith
 is_there (d ∷ ds) zero h e = cc
 is_there (d ∷ ds) (suc i) h e = is_there ds i (omega arith) e
 
-taken_here : (slots : Slots) (listed : List NumberedExposure) (a : AreListed slots listed) (ds : Ds) (i : ℕ) (o : Option Observation) → slice_get ds i ≡ o → i < length ds → IsTaken (slot slots) ds i
+-- the id at place i is held, or equals an earlier one
+abbrev IsTaken : Slots → Ds → ℕ → Type 0
+IsTaken slots list i = ((n : ℕ) × (d : Observation) × (slot slots n ≡ Some d) × (d.id ≡ (get_or list i d).id)) ⊎ ((j : ℕ) × (j < i) × ((e : Observation) → (get_or list j e).id ≡ (get_or list i e).id))
+
+taken_here : (slots : Slots) (listed : List NumberedExposure) (a : AreListed slots listed) (ds : Ds) (i : ℕ) (o : Option Observation) → slice_get ds i ≡ o → i < length ds → IsTaken slots ds i
     → option_map_or (λ d. is_held_id (map (exposure_of slots) listed) d.id || list_any (λ e. pointwise nat_eq e.id d.id) (take i ds)) o false ≡ true
 taken_here slots listed a ds i None e l t = absurd (is_there ds i l e)
 taken_here slots listed a ds i (Some d) e l (inl (n, x, held, same)) =
@@ -112,14 +116,24 @@ taken_here slots listed a ds i (Some d) e l (inr (j, m, same)) =
     (any_at (λ (x : Observation). pointwise nat_eq x.id d.id) (take i ds) j (get_or (take i ds) j d) len (sym (read_default (take i ds) j (get_or (take i ds) j d) d len))
     (same_id (get_or (take i ds) j d).id d.id (ap (λ (o : Observation). o.id) (get_or-take i ds j d m) ∙ (same d ∙ ap (λ (o : Observation). o.id) here))))
 
-pub no_taken : (slots : Slots) (listed : List NumberedExposure) (ds : Ds) → NoneTaken (slot slots) ds (length ds) → first_taken (map (exposure_of slots) listed) ds ≡ None
-no_taken slots listed ds none = pos_none (is_taken (map (exposure_of slots) listed) ds) 0 (length ds) (λ k l.
-    from_zero (is_taken (map (exposure_of slots) listed) ds) k false (not_taken slots listed ds k (slice_get ds k) refl (none.fresh k l) (none.apart k l)))
+-- no place before n is taken, whichever exposures these slots are
+abbrev pub NoneTaken : Slots → Ds → ℕ → Type 0
+NoneTaken slots ds n = (listed : List NumberedExposure) → AreListed slots listed → (k : ℕ) → k < n → is_taken (map (exposure_of slots) listed) ds k ≡ false
 
-pub taken_first : (slots : Slots) (listed : List NumberedExposure) (a : AreListed slots listed) (ds : Ds) (i : ℕ) → IsFirstTaken (slot slots) ds i → first_taken (map (exposure_of slots) listed) ds ≡ Some i
-taken_first slots listed a ds i first = zero_first (is_taken (map (exposure_of slots) listed) ds) (length ds) i (pos_first (is_taken (map (exposure_of slots) listed) ds) 0 (length ds) i first.within
-    (from_zero (is_taken (map (exposure_of slots) listed) ds) i true (taken_here slots listed a ds i (slice_get ds i) refl first.within first.taken))
-    (λ k l. from_zero (is_taken (map (exposure_of slots) listed) ds) k false (not_taken slots listed ds k (slice_get ds k) refl (first.earlier.fresh k l) (first.earlier.apart k l))))
+pub none_more : (slots : Slots) (ds : Ds) (i : ℕ) → NoneTaken slots ds i → ((n : ℕ) (d e : Observation) → slot slots n ≡ Some d → d.id ≢ (get_or ds i e).id) → ((j : ℕ) (e : Observation) → j < i → (get_or ds j e).id ≢ (get_or ds i e).id)
+    → NoneTaken slots ds (i + 1)
+none_more slots ds i none fresh apart listed a k h = elim (cases_eq k i) [
+  | inl e ↦ rw e (not_taken slots listed ds i (slice_get ds i) refl fresh apart)
+  | inr ne ↦ none listed a k (omega (arith, h, ne))
+]
+
+pub no_taken : (slots : Slots) (ds : Ds) (n : ℕ) → length ds ≤ n → NoneTaken slots ds n → (listed : List NumberedExposure) → AreListed slots listed → None ≡ first_taken (map (exposure_of slots) listed) ds
+no_taken slots ds n h none listed a = sym (pos_none (is_taken (map (exposure_of slots) listed) ds) 0 (length ds) (λ k l. from_zero (is_taken (map (exposure_of slots) listed) ds) k false (none listed a k (omega (arith, h, l)))))
+
+pub taken_first : (slots : Slots) (ds : Ds) (i : ℕ) → NoneTaken slots ds i → i < length ds → IsTaken slots ds i → (listed : List NumberedExposure) → AreListed slots listed → Some i ≡ first_taken (map (exposure_of slots) listed) ds
+taken_first slots ds i none l taken listed a = sym (zero_first (is_taken (map (exposure_of slots) listed) ds) (length ds) i (pos_first (is_taken (map (exposure_of slots) listed) ds) 0 (length ds) i l
+    (from_zero (is_taken (map (exposure_of slots) listed) ds) i true (taken_here slots listed a ds i (slice_get ds i) refl l taken))
+    (λ k m. from_zero (is_taken (map (exposure_of slots) listed) ds) k false (none listed a k m))))
 
 -- ---- the room that is left
 

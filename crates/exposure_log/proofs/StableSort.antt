@@ -41,7 +41,7 @@ no_less_from_equal r Less e h = cc
 no_less_from_equal r Equal e h = rw h refl
 no_less_from_equal r Greater e h = cc
 
-equal_from_no_greater : (r s : Ordering) → r ≡ ordering_reverse s → is_gt r ≡ false → is_gt s ≡ false → r ≡ Equal
+pub equal_from_no_greater : (r s : Ordering) → r ≡ ordering_reverse s → is_gt r ≡ false → is_gt s ≡ false → r ≡ Equal
 equal_from_no_greater r Less e g h = let no = rw e at g in cc
 equal_from_no_greater r Equal e g h = e
 equal_from_no_greater r Greater e g h = cc

@@ -1,5 +1,5 @@
 -- What gathering a list of detections into exposures gives.
-use Rattle.std.specs.Prelude.{◌≡◌, false, ℕ, ◌<◌, List, length, slice_index_or}
+use Rattle.std.specs.Prelude.{◌≡◌, false, List}
 use Rattle.std.specs.List.{AllPairs, flat_map}
 use Rattle.std.specs.List.Sorted.{IsPermutation, IsStable}
 use Rattle.std.specs.declared.cmp.Ordering.TheVariants.{Less}
@@ -24,8 +24,5 @@ abbrev pub NotAfter : Observation → Observation → Type 0
 NotAfter x y = is_gt (canonical_cmp x y) ≡ false
 
 -- two detections are of one epoch and one site
-abbrev pub IsOfOnePlace : Observation → Observation → Type 0
-IsOfOnePlace x y = (x.epoch ≡ y.epoch) × (x.site ≡ y.site)
-
-abbrev pub AreOfOnePlace : List Observation → Type 0
-AreOfOnePlace list = (j k : ℕ) (d : Observation) → j < length list → k < length list → IsOfOnePlace (slice_index_or list j d) (slice_index_or list k d)
+abbrev pub IsOfOneExposure : Observation → Observation → Type 0
+IsOfOneExposure x y = (x.epoch ≡ y.epoch) × (x.site ≡ y.site)

@@ -1,5 +1,5 @@
 -- The held exposures, the window of nights, and what a call does to them.
-use Rattle.std.specs.Prelude.{◌≡◌, ℕ, ◌+◌, ◌<◌, ◌≤◌, nat_lt, nat_le, nat_eq, ℤ, pos, ◌-ℤ◌, Bool, true, false, not, ◌||◌, ◌==◌, if◌then◌else◌, Option, Some, None, List, [], ◌∷◌, ◌++◌, length, take, slice_get, map, ⊤, Result, MatchResult}
+use Rattle.std.specs.Prelude.{◌≡◌, ℕ, ◌+◌, ◌≤◌, nat_lt, nat_le, nat_eq, ℤ, pos, ◌-ℤ◌, Bool, false, not, ◌||◌, ◌==◌, if◌then◌else◌, Option, Some, None, List, ◌∷◌, ◌++◌, length, take, slice_get, map, Result, MatchResult}
 use Rattle.std.specs.List.{AllWithin, find, filter, flat_map, list_any, range_with_len}
 use Rattle.std.specs.Map.{lookup}
 use Rattle.std.specs.Option.{option_map_or}
@@ -12,6 +12,7 @@ use Rattle.sky_math.specs.Night.{night_at}
 use Rattle.sky_units.specs.Limits.{most_nights}
 use Rattle.sky_units.specs.SpotData.{SpotData}
 use Rattle.miti_text.specs.Observation.{Observation}
+use Rattle.number_register.specs.Numbering.{TakeLeast}
 use Rattle.exposure_log.specs.declared.errors.AddError.{AddError}
 use Rattle.exposure_log.specs.declared.errors.AddError.TheVariants.{NoWindow, Old, New, Held, Id, NightFull, Full}
 use Rattle.exposure_log.specs.declared.errors.WindowError.{WindowError}
@@ -43,24 +44,24 @@ detections_of exposures = flat_map (λ x. x.detections) exposures
 abbrev pub held_at : List HeldExposure → ℕ → Option Observation
 held_at exposures n = lookup (λ k. k == n) (detections_of exposures)
 
--- how an exposure's place compares with an epoch and a site
-abbrev pub place_cmp : ℤ → List ℕ → HeldExposure → Ordering
-place_cmp epoch site x = ordering_then (int_cmp x.epoch epoch) (slice_cmp nat_cmp x.site site)
+-- how an exposure compares with another epoch and site, by its epoch and then by the bytes of its site
+abbrev pub exposure_cmp : ℤ → List ℕ → HeldExposure → Ordering
+exposure_cmp epoch site x = ordering_then (int_cmp x.epoch epoch) (slice_cmp nat_cmp x.site site)
 
 abbrev pub stands_before : ℤ → List ℕ → HeldExposure → Bool
-stands_before epoch site x = is_lt (place_cmp epoch site x)
+stands_before epoch site x = is_lt (exposure_cmp epoch site x)
 
 abbrev pub stands_at : ℤ → List ℕ → HeldExposure → Bool
-stands_at epoch site x = is_eq (place_cmp epoch site x)
+stands_at epoch site x = is_eq (exposure_cmp epoch site x)
 
 abbrev pub stands_after : ℤ → List ℕ → HeldExposure → Bool
-stands_after epoch site x = is_gt (place_cmp epoch site x)
+stands_after epoch site x = is_gt (exposure_cmp epoch site x)
 
 -- the place among the exposures where one of an epoch and a site would stand, where none stands there
 pub record IsFreePlace (epoch : ℤ) (site : List ℕ) (held : List HeldExposure) (i : ℕ) : Type 0 where
   pub within : i ≤ length held
-  pub earlier : AllWithin (λ x. place_cmp epoch site x ≡ Less) held 0 i
-  pub later : AllWithin (λ x. place_cmp epoch site x ≡ Greater) held i (length held)
+  pub earlier : AllWithin (λ x. exposure_cmp epoch site x ≡ Less) held 0 i
+  pub later : AllWithin (λ x. exposure_cmp epoch site x ≡ Greater) held i (length held)
 
 -- the exposures with one more, at its place
 abbrev pub with_exposure : HeldExposure → List HeldExposure → List HeldExposure
@@ -116,27 +117,13 @@ refusal log x =
     else (if lt_z window.1 (night_at log.night_shift x.epoch) then Some New else held_refusal log x))
     log.window (Some NoWindow)
 
--- a number is one of those that are taken
-abbrev pub is_among : ℕ → List ℕ → Bool
-is_among n taken = list_any (λ k. k == n) taken
-
--- n is the least number that isn't among those that are taken
-pub record IsLeastNumber (taken : List ℕ) (n : ℕ) : Type 0 where
-  pub is_free : is_among n taken ≡ false
-  pub lower_are_taken : (k : ℕ) → k < n → is_among k taken ≡ true
-
--- each takes the least number that is left, one after another
-abbrev pub AreLeastNumbers : List ℕ → List ℕ → Type 0
-AreLeastNumbers taken [] = ⊤
-AreLeastNumbers taken (n ∷ ns) = IsLeastNumber taken n × AreLeastNumbers (n ∷ taken) ns
-
 -- the exposure is held from now on, its detections with the least numbers that no held one had
 pub record TakesIn (old new : LogData) (x : ExposureData) : Type 0 where
   pub held : HeldExposure
   pub epoch : held.epoch ≡ x.epoch
   pub site : held.site ≡ x.site
   pub detections : map (λ d. d.1) held.detections ≡ x.detections
-  pub numbers : AreLeastNumbers (map (λ d. d.0) (detections_of old.exposures)) (map (λ d. d.0) held.detections)
+  pub numbers : TakeLeast (held_at old.exposures) (map (λ d. d.0) held.detections) x.detections
   pub is : new ≡ record old { exposures = with_exposure held old.exposures }
 
 -- why the window can't be moved so: the first cause that holds, or none

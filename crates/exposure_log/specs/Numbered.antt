@@ -1,14 +1,14 @@
 -- How the log keeps its exposures: each a list of numbers, whose detections stand in the slots.
-use Rattle.std.specs.Prelude.{◌≡◌, ◌≢◌, ℕ, ◌<◌, ◌≤◌, ℤ, Option, Some, List, length, slice_index, slice_index_or, ◌⊎◌}
+use Rattle.std.specs.Prelude.{◌≡◌, ℕ, ◌<◌, ◌≤◌, ℤ, Option, Some, List, [], length, slice_index, slice_index_or}
 use Rattle.std.specs.List.{All, Contains, filter_map, sum_by}
 use Rattle.std.specs.Option.{option_map}
 use Rattle.std.specs.declared.cmp.Ordering.{Ordering}
 use Rattle.std.specs.declared.cmp.Ordering.TheVariants.{Less}
-use Rattle.std.specs.Ordering.{int_cmp, nat_cmp, ordering_then}
+use Rattle.std.specs.Ordering.{nat_cmp}
 use Rattle.std.specs.Cmp.Lexicographic.{slice_cmp}
 use Rattle.sky_units.specs.Ranges.{IsEpoch}
 use Rattle.miti_text.specs.Observation.{Observation}
-use Rattle.exposure_log.specs.Held.{HeldExposure, most_detections}
+use Rattle.exposure_log.specs.Held.{HeldExposure, most_detections, exposure_cmp}
 use Rattle.number_register.specs.Numbering.{slot, count_held}
 use Rattle.exposure_log.specs.declared.numbered.NumberedExposure.{NumberedExposure}
 
@@ -27,9 +27,9 @@ pub record IsNumbered (slots : List (Option Observation)) (g : NumberedExposure)
   pub held : (k : ℕ) → k < length g.numbers.items → (d : Observation) × (slot slots (slice_index g.numbers.items k) ≡ Some d) × (d.epoch ≡ g.epoch) × (d.site ≡ g.site)
   pub by_id : (j k : ℕ) (d e : Observation) → j < k → k < length g.numbers.items → slot slots (slice_index g.numbers.items j) ≡ Some d → slot slots (slice_index g.numbers.items k) ≡ Some e → slice_cmp nat_cmp d.id e.id ≡ Less
 
--- how an exposure's place compares with an epoch and a site
+-- how an exposure compares with another epoch and site: as the held exposure that it is
 abbrev pub numbered_cmp : ℤ → List ℕ → NumberedExposure → Ordering
-numbered_cmp epoch site g = ordering_then (int_cmp g.epoch epoch) (slice_cmp nat_cmp g.site site)
+numbered_cmp epoch site g = exposure_cmp epoch site (exposure_of [] g)
 
 -- the exposures stand in strict order of epoch and site
 abbrev pub RiseStrictly : List NumberedExposure → Type 0
@@ -42,25 +42,3 @@ pub record AreListed (slots : List (Option Observation)) (listed : List Numbered
   pub none_else : (n : ℕ) (d : Observation) → slot slots n ≡ Some d → (g : NumberedExposure) × Contains listed g × Contains g.numbers.items n
   pub count : count_held slots ≡ sum_by (λ g. length g.numbers.items) listed
   pub few : count_held slots ≤ most_detections
-
--- the id at place k is held by nobody
-abbrev pub IsFresh : (ℕ → Option Observation) → List Observation → ℕ → Type 0
-IsFresh at list k = (n : ℕ) (d e : Observation) → at n ≡ Some d → d.id ≢ (slice_index_or list k e).id
-
--- the id at place k differs from those of earlier places
-abbrev pub IsApart : List Observation → ℕ → Type 0
-IsApart list k = (j : ℕ) (e : Observation) → j < k → (slice_index_or list j e).id ≢ (slice_index_or list k e).id
-
--- no id before the place n is taken
-pub record NoneTaken (at : ℕ → Option Observation) (list : List Observation) (n : ℕ) : Type 0 where
-  pub fresh : (k : ℕ) → k < n → IsFresh at list k
-  pub apart : (k : ℕ) → k < n → IsApart list k
-
--- the id at place i is held, or equals an earlier one
-abbrev pub IsTaken : (ℕ → Option Observation) → List Observation → ℕ → Type 0
-IsTaken at list i = ((n : ℕ) × (d : Observation) × (at n ≡ Some d) × (d.id ≡ (slice_index_or list i d).id)) ⊎ ((j : ℕ) × (j < i) × ((e : Observation) → (slice_index_or list j e).id ≡ (slice_index_or list i e).id))
-
-pub record IsFirstTaken (at : ℕ → Option Observation) (list : List Observation) (i : ℕ) : Type 0 where
-  pub within : i < length list
-  pub taken : IsTaken at list i
-  pub earlier : NoneTaken at list i

@@ -7,7 +7,7 @@ use Rattle.sky_math.specs.Night.{night_at}
 use Rattle.sky_units.specs.Limits.{IsWindow}
 use Rattle.miti_text.specs.Observation.{Observation, is_id}
 use Rattle.miti_text.specs.CanonicalOrder.{canonical_cmp}
-use Rattle.exposure_log.specs.Held.{LogData, HeldExposure, place_cmp, detections_of, most_detections}
+use Rattle.exposure_log.specs.Held.{LogData, HeldExposure, exposure_cmp, detections_of, most_detections}
 
 -- a held exposure lies in a night of the window
 abbrev pub IsInside : ℤ → ℤ × ℤ → HeldExposure → Type 0
@@ -20,7 +20,7 @@ LieInWindow shift (Some window) exposures = IsWindow window × All (IsInside shi
 
 -- the first of two held exposures stands before the second, by epoch and then by the bytes of the site
 abbrev pub GoesBefore : HeldExposure → HeldExposure → Type 0
-GoesBefore x y = place_cmp y.epoch y.site x ≡ Less
+GoesBefore x y = exposure_cmp y.epoch y.site x ≡ Less
 
 -- a held exposure has detections
 abbrev pub HasSome : HeldExposure → Type 0

@@ -1,13 +1,13 @@
 //! Exposures, and gathering detections into them.
-ghost use Rattle.std.specs.Prelude.{◌≡◌, ◌<◌, ◌^◌, ◌-◌, IfOk, true, false, length, slice_index_or};
+ghost use Rattle.std.specs.Prelude.{◌≡◌, ℕ, ◌<◌, ◌≤◌, ◌^◌, ◌-◌, IfOk, OnOk, length, take, drop, slice_index_or};
 ghost use Rattle.std.specs.List.{All, AllPairs, flat_map};
 ghost use Rattle.std.specs.Vec.{vec_len};
 ghost use Rattle.miti_text.specs.Observation.{Observation};
 ghost use Rattle.exposure_log.specs.Deliveries.{AreExposuresOf, IsOneExposure};
-ghost use Rattle.exposure_log.specs.Gathered.{Precedes, NotAfter, IsOfOnePlace, AreOfOnePlace};
+ghost use Rattle.exposure_log.specs.Gathered.{Precedes, NotAfter, IsOfOneExposure};
 ghost use Rattle.exposure_log.specs.Exposures.{IsExposure, IdsDontFall};
 
-use crate::canonical::{are_of_one_place, compare};
+use crate::canonical::{are_of_one_exposure, compare};
 use miti_text::Detection;
 use sky_units::{NoMemory, Word};
 use std::alloc::Global;
@@ -28,9 +28,14 @@ impl Model for Exposure {
 
     ghost Value = { ExposureData };
 
-    ghost view = { λ x. record { epoch = x.epoch; site = x.site; detections = x.detections.items } };
+    ghost view = { λ x. record {
+      epoch = x.epoch;
+      site = x.site;
+      detections = x.detections.items;
+    } };
 
-    ghost invariant = { λ x. IsExposure (record { epoch = x.epoch; site = x.site; detections = x.detections.items }) };
+    ghost invariant = { λ x. IsExposure
+        (record { epoch = x.epoch; site = x.site; detections = x.detections.items }) };
 }
 
 impl Exposure {
@@ -116,51 +121,81 @@ pub fn gather(alloc: Global, list: Vec<Detection>) -> Result<Vec<Exposure>, NoMe
     cut(alloc, sorted)
 }
 
-/// Cuts a list in canonical order into its exposures.
+/// Cuts a list in canonical order into its exposures, the last first.
 fn cut(alloc: Global, sorted: Vec<Detection>) -> Result<Vec<Exposure>, NoMemory>
     requires few { vec_len sorted < 2 ^ 32 }
     requires order { AllPairs NotAfter sorted.items }
-    ensures { IfOk result (λ exposures. AllPairs Precedes exposures.items × All IsOneExposure exposures.items × (flat_map (λ x. x.detections) exposures.items ≡ sorted.items)) }
+    ensures { IfOk result (λ exposures. AllPairs Precedes exposures.items ×
+        All IsOneExposure exposures.items ×
+        (flat_map (λ x. x.detections) exposures.items ≡ sorted.items)) }
 {
     let mut rest = sorted;
-    rest.as_mut_slice().reverse();
     let mut exposures = Vec::new(alloc);
-    let mut current: Vec<Detection> = Vec::new(alloc);
-    while let Some(detection) = rest.pop() {
-        if begins_another(current.as_slice(), &detection) {
-            let whole = mem::replace(&mut current, Vec::new(alloc));
-            exposures.push(exposure_of(alloc, whole)?)?;
-        }
-        current.push(detection)?;
+    while !rest.is_empty() {
+        let start = start_of_last(rest.as_slice());
+        let last = split_from(alloc, &mut rest, start)?;
+        exposures.push(exposure_of(alloc, last)?)?;
     }
-    if !current.is_empty() {
-        exposures.push(exposure_of(alloc, current)?)?;
-    }
+    exposures.reverse();
     Ok(exposures)
 }
 
-/// Whether the detection is of another place than the last one.
-fn begins_another(current: &[Detection], detection: &Detection) -> bool
-    ensures yes { result ≡ true → (0 < length current.now) × ((d : Observation) → IsOfOnePlace (slice_index_or current.now (length current.now - 1) d) detection.now → ⊥) }
-    ensures no { result ≡ false → 0 < length current.now → (d : Observation) → IsOfOnePlace (slice_index_or current.now (length current.now - 1) d) detection.now }
+/// The place from which on all detections are of one exposure with the last, of a list in canonical
+/// order. Where the first is, all are.
+fn start_of_last(list: &[Detection]) -> usize
+    requires some { 0 < length list.now }
+    requires order { AllPairs NotAfter list.now }
+    ensures within { result < length list.now }
+    ensures last { (k : ℕ) (d : Observation) → result ≤ k → k < length list.now →
+        IsOfOneExposure (slice_index_or list.now k d)
+        (slice_index_or list.now (length list.now - 1) d) }
+    ensures other { (d : Observation) → 0 < result →
+        IsOfOneExposure (slice_index_or list.now (result - 1) d)
+        (slice_index_or list.now (length list.now - 1) d) → ⊥ }
 {
-    match current.last() {
-        Some(last) => !are_of_one_place(last, detection),
-        None => false,
+    let last = &list[list.len() - 1];
+    if are_of_one_exposure(&list[0], last) {
+        return 0;
     }
+    let mut start = list.len() - 1;
+    while start > 0 {
+        if !are_of_one_exposure(&list[start - 1], last) {
+            return start;
+        }
+        start -= 1;
+    }
+    start
+}
+
+/// Takes out the detections from a place on; where these are all, none is moved.
+fn split_from(
+    alloc: Global,
+    list: &mut Vec<Detection>,
+    start: usize,
+) -> Result<Vec<Detection>, NoMemory>
+    requires within { start ≤ vec_len list.old }
+    ensures kept { OnOk result (list.new.items ≡ take start list.old.items) }
+    ensures taken { IfOk result (λ out. out.items ≡ drop start list.old.items) }
+{
+    if start == 0 {
+        return Ok(mem::replace(list, Vec::new(alloc)));
+    }
+    list.split_off(start)
 }
 
 /// The exposure of these detections, which are of one epoch and one site, in order of their ids.
 fn exposure_of(alloc: Global, detections: Vec<Detection>) -> Result<Exposure, NoMemory>
     requires some { 0 < vec_len detections }
     requires few { vec_len detections < 2 ^ 32 }
-    requires one_place { AreOfOnePlace detections.items }
+    requires one_exposure { (d : Observation) →
+        All (λ e. IsOfOneExposure e
+        (slice_index_or detections.items (length detections.items - 1) d)) detections.items }
     requires order { IdsDontFall detections.items }
     ensures { IfOk result (λ x. (x.detections ≡ detections.items) × IsExposure x) }
 {
-    let first = &detections[0];
-    let epoch = first.epoch;
-    let site = Word::new(alloc, first.site.bytes())?;
+    let last = &detections[detections.len() - 1];
+    let epoch = last.epoch;
+    let site = Word::new(alloc, last.site.bytes())?;
     Ok(Exposure {
         epoch,
         site,

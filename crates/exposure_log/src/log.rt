@@ -1,5 +1,5 @@
 //! The log of held exposures.
-ghost use Rattle.std.specs.Prelude.{◌≡◌, ◌≢◌, ℕ, ℤ, ◌+◌, ◌^◌, ◌<◌, ◌≤◌, ◌<ℤ◌, pos, neg_ℤ, [], None, Some, IsSome, IsTrue, IfOk, IfErr, OnErr, OnOk, ◌++◌, length, map, nat_le, nat_lt, option_copied};
+ghost use Rattle.std.specs.Prelude.{◌≡◌, ◌≢◌, ℕ, ℤ, ◌+◌, ◌^◌, ◌<◌, ◌≤◌, ◌<ℤ◌, pos, neg_ℤ, [], None, Some, IsSome, IsTrue, IfOk, IfErr, OnErr, OnOk, ◌++◌, List, length, map, nat_le, nat_lt, option_copied};
 ghost use Rattle.std.specs.List.{All, list_any};
 ghost use Rattle.sky_math.specs.Night.{night_at};
 ghost use Rattle.std.specs.Ordering.{is_lt};
@@ -7,11 +7,11 @@ ghost use Rattle.sky_units.specs.Limits.{IsNear};
 ghost use Rattle.sky_units.specs.SettingRanges.{IsNightShift};
 ghost use Rattle.miti_text.specs.Observation.{Observation, is_id};
 ghost use Rattle.miti_text.specs.CanonicalOrder.{canonical_cmp};
-ghost use Rattle.exposure_log.specs.Numbered.{NoneTaken, IsFirstTaken, AreListed, entries_of, exposure_of};
+ghost use Rattle.exposure_log.specs.Numbered.{AreListed, entries_of, exposure_of};
 ghost use Rattle.exposure_log.specs.Nights.{listed_of, IsPlaceFor};
-ghost use Rattle.number_register.specs.Numbering.{slot};
+ghost use Rattle.exposure_log.specs.declared.numbered.NumberedExposure.{NumberedExposure};
 ghost use Rattle.exposure_log.specs.Exposures.{IsExposure, IdsDontFall};
-ghost use Rattle.exposure_log.specs.Held.{LogData, TakesIn, IsAnsweredAs, refusal, held_refusal, room_refusal, held_at, detections_of, stands_at, without_exposure, from_night, window_refusal, moved, spots_of_night, spot_of, of_night, most_of_a_night, most_detections};
+ghost use Rattle.exposure_log.specs.Held.{LogData, TakesIn, IsAnsweredAs, refusal, held_refusal, room_refusal, first_taken as first_taken_of, held_at, detections_of, stands_at, without_exposure, from_night, window_refusal, moved, spots_of_night, spot_of, of_night, most_of_a_night, most_detections};
 ghost use Rattle.exposure_log.specs.HandedBack.{IsHandedBack};
 ghost use Rattle.exposure_log.specs.Orderly.{IsOrderly};
 ghost use Rattle.exposure_log.specs.declared.errors.AddError.TheVariants.{NoMemory as no_memory};
@@ -54,16 +54,27 @@ impl Model for ExposureLog {
 
     ghost Value = { LogData };
 
-    ghost view = { λ log. record { night_shift = log.nights.shift; window = log.window; exposures = map (exposure_of log.register) (listed_of log.nights) } };
+    ghost view = { λ log. record {
+      night_shift = log.nights.shift;
+      window = log.window;
+      exposures = map (exposure_of log.register) (listed_of log.nights);
+    } };
 
-    ghost invariant = { λ log. IsNightShift log.nights.shift × AreListed log.register (listed_of log.nights) × IsOrderly (record { night_shift = log.nights.shift; window = log.window; exposures = map (exposure_of log.register) (listed_of log.nights) }) };
+    ghost invariant = { λ log. IsNightShift log.nights.shift ×
+        AreListed log.register (listed_of log.nights) ×
+        IsOrderly (record {
+          night_shift = log.nights.shift;
+          window = log.window;
+          exposures = map (exposure_of log.register) (listed_of log.nights);
+        }) };
 }
 
 impl ExposureLog {
     /// No window and nothing held, with nights counted by this shift (in ticks).
     pub fn new(alloc: Global, night_shift: i64) -> Result<ExposureLog, NoMemory>
         requires { IsNightShift night_shift }
-        ensures { IfOk result (λ log. log ≡ record { night_shift = night_shift; window = None; exposures = [] }) }
+        ensures { IfOk result (λ log. log ≡
+            record { night_shift = night_shift; window = None; exposures = [] }) }
     {
         Ok(ExposureLog {
             alloc,
@@ -118,7 +129,8 @@ impl ExposureLog {
     /// memory.
     pub fn remove(&mut self, epoch: i64, site: &[u8]) -> bool
         ensures found { result ≡ list_any (stands_at epoch site.now) self.old.exposures }
-        ensures rest { self.new ≡ record self.old { exposures = without_exposure epoch site.now self.old.exposures } }
+        ensures rest { self.new ≡ record self.old
+            { exposures = without_exposure epoch site.now self.old.exposures } }
     {
         let Some(numbered) = self.nights.take(epoch, site) else {
             return false;
@@ -130,7 +142,8 @@ impl ExposureLog {
     /// Holds the exposure from now on; the number of its detections. Each takes the least number
     /// that is left. The exposure itself is held, and no copy of it; one that is refused comes back.
     pub fn hold(&mut self, exposure: Exposure) -> Result<u32, NotHeld>
-        ensures ok { IfOk result (λ n. (refusal self.old exposure ≡ None) × (n ≡ length exposure.detections) × TakesIn self.old self.new exposure) }
+        ensures ok { IfOk result (λ n. (refusal self.old exposure ≡ None) ×
+            (n ≡ length exposure.detections) × TakesIn self.old self.new exposure) }
         ensures err { IfErr result (λ e. (self.new ≡ self.old) × IsHandedBack self.old exposure e) }
         ensures keeps { IfOk result (λ _. IsExposure exposure) }
         ensures ids { IfOk result (λ _. All (λ d. IsTrue (is_id d.id)) exposure.detections) }
@@ -147,8 +160,10 @@ impl ExposureLog {
 
     /// Holds a copy of the exposure, as `hold` does.
     pub fn add(&mut self, exposure: &Exposure) -> Result<u32, AddError>
-        ensures ok { IfOk result (λ n. (refusal self.old exposure.now ≡ None) × (n ≡ length exposure.now.detections) × TakesIn self.old self.new exposure.now) }
-        ensures err { IfErr result (λ e. (self.new ≡ self.old) × (e ≢ no_memory → refusal self.old exposure.now ≡ Some e)) }
+        ensures ok { IfOk result (λ n. (refusal self.old exposure.now ≡ None) ×
+            (n ≡ length exposure.now.detections) × TakesIn self.old self.new exposure.now) }
+        ensures err { IfErr result (λ e. (self.new ≡ self.old) × (e ≢ no_memory →
+            refusal self.old exposure.now ≡ Some e)) }
         ensures keeps { IfOk result (λ _. IsExposure exposure.now) }
         ensures ids { IfOk result (λ _. All (λ d. IsTrue (is_id d.id)) exposure.now.detections) }
     {
@@ -159,7 +174,8 @@ impl ExposureLog {
 
     /// The place of the exposure in its night, or the first cause for which the log doesn't take it.
     fn place_for(&self, exposure: &Exposure) -> Result<NightPlace, AddError>
-        ensures place { IfOk result (λ place. (refusal self.now exposure.now ≡ None) × IsPlaceFor self.now exposure.now place) }
+        ensures place { IfOk result (λ place. (refusal self.now exposure.now ≡ None) ×
+            IsPlaceFor self.now exposure.now place) }
         ensures cause { IfErr result (λ e. refusal self.now exposure.now ≡ Some e) }
         ensures ids { IfOk result (λ _. All (λ d. IsTrue (is_id d.id)) exposure.now.detections) }
     {
@@ -179,7 +195,8 @@ impl ExposureLog {
     /// The same for an exposure whose night lies in the window.
     fn place_in_window(&self, exposure: &Exposure, night: i64) -> Result<NightPlace, AddError>
         requires { night ≡ night_at self.now.night_shift exposure.now.epoch }
-        ensures place { IfOk result (λ place. (held_refusal self.now exposure.now ≡ None) × IsPlaceFor self.now exposure.now place) }
+        ensures place { IfOk result (λ place. (held_refusal self.now exposure.now ≡ None) ×
+            IsPlaceFor self.now exposure.now place) }
         ensures cause { IfErr result (λ e. held_refusal self.now exposure.now ≡ Some e) }
         ensures ids { IfOk result (λ _. All (λ d. IsTrue (is_id d.id)) exposure.now.detections) }
     {
@@ -212,7 +229,8 @@ impl ExposureLog {
 
     /// Whether a night holds no more exposures.
     fn is_night_full(&self, night: i64) -> bool
-        ensures { result ≡ nat_le most_of_a_night (length (of_night self.now.night_shift night self.now.exposures)) }
+        ensures { result ≡ nat_le most_of_a_night
+            (length (of_night self.now.night_shift night self.now.exposures)) }
     {
         self.nights.of_night(night).len() >= MOST_OF_A_NIGHT
     }
@@ -220,7 +238,8 @@ impl ExposureLog {
     /// Whether `more` detections would be more than the log holds.
     fn is_full_with(&self, more: usize) -> bool
         requires { more < 2 ^ 32 }
-        ensures { result ≡ nat_lt most_detections (length (detections_of self.now.exposures) + more) }
+        ensures { result ≡ nat_lt most_detections
+            (length (detections_of self.now.exposures) + more) }
     {
         self.detections() as usize + more > MOST_DETECTIONS
     }
@@ -230,7 +249,8 @@ impl ExposureLog {
         requires free { refusal self.old exposure ≡ None }
         requires ids { All (λ d. IsTrue (is_id d.id)) exposure.detections }
         requires place { IsPlaceFor self.old exposure place }
-        ensures ok { IfOk result (λ n. (n ≡ length exposure.detections) × TakesIn self.old self.new exposure) }
+        ensures ok { IfOk result (λ n. (n ≡ length exposure.detections) ×
+            TakesIn self.old self.new exposure) }
         ensures err { OnErr result (self.new ≡ self.old) }
         ensures keeps { IsExposure exposure }
     {
@@ -287,8 +307,10 @@ impl ExposureLog {
 
     /// The number of the held detection of this id.
     pub fn find(&self, id: &[u8]) -> Option<u32>
-        ensures none { result ≡ None → (n : ℕ) (d : Observation) → held_at self.now.exposures n ≡ Some d → d.id ≢ id.now }
-        ensures some { (n : ℕ) → result ≡ Some n → (d : Observation) × (held_at self.now.exposures n ≡ Some d) × (d.id ≡ id.now) }
+        ensures none { result ≡ None → (n : ℕ) (d : Observation) →
+            held_at self.now.exposures n ≡ Some d → d.id ≢ id.now }
+        ensures some { (n : ℕ) → result ≡ Some n →
+            (d : Observation) × (held_at self.now.exposures n ≡ Some d) × (d.id ≡ id.now) }
     {
         self.register.find(id)
     }
@@ -297,7 +319,8 @@ impl ExposureLog {
     pub fn before(&self, a: u32, b: u32) -> bool
         requires a { IsSome (held_at self.now.exposures a) }
         requires b { IsSome (held_at self.now.exposures b) }
-        ensures { (d e : Observation) → held_at self.now.exposures a ≡ Some d → held_at self.now.exposures b ≡ Some e → result ≡ is_lt (canonical_cmp d e) }
+        ensures { (d e : Observation) → held_at self.now.exposures a ≡ Some d →
+            held_at self.now.exposures b ≡ Some e → result ≡ is_lt (canonical_cmp d e) }
     {
         match (self.register.get(a), self.register.get(b)) {
             (Some(first), Some(second)) => compare(first, second).is_lt(),
@@ -310,8 +333,8 @@ impl ExposureLog {
 fn first_taken(register: &Register, detections: &[Detection]) -> Option<u32>
     requires few { length detections.now < 2 ^ 32 }
     requires order { IdsDontFall detections.now }
-    ensures none { result ≡ None → NoneTaken (slot register.now) detections.now (length detections.now) }
-    ensures some { (i : ℕ) → result ≡ Some i → IsFirstTaken (slot register.now) detections.now i }
+    ensures first { (listed : List NumberedExposure) → AreListed register.now listed →
+        result ≡ first_taken_of (map (exposure_of register.now) listed) detections.now }
     ensures ids { result ≡ None → All (λ d. IsTrue (is_id d.id)) detections.now }
 {
     for (place, detection) in detections.iter().enumerate() {
@@ -333,7 +356,8 @@ fn forget_before(register: &mut Register, nights: &mut HeldNights, night: i64)
     requires { AreListed register.old (listed_of nights.old) }
     ensures shift { nights.new.shift ≡ nights.old.shift }
     ensures listed { AreListed register.new (listed_of nights.new) }
-    ensures exposures { map (exposure_of register.new) (listed_of nights.new) ≡ from_night nights.old.shift night (map (exposure_of register.old) (listed_of nights.old)) }
+    ensures exposures { map (exposure_of register.new) (listed_of nights.new) ≡
+        from_night nights.old.shift night (map (exposure_of register.old) (listed_of nights.old)) }
 {
     while let Some(listed) = nights.take_before(night) {
         let_go_listed(register, listed.as_slice());
@@ -358,7 +382,8 @@ fn spots_of(
     register: &Register,
     listed: &[NumberedExposure],
 ) -> Result<Vec<Spot>, NoMemory>
-    ensures { IfOk result (λ spots. spots.items ≡ map spot_of (detections_of (map (exposure_of register.now) listed.now))) }
+    ensures { IfOk result (λ spots. spots.items ≡
+        map spot_of (detections_of (map (exposure_of register.now) listed.now))) }
 {
     let mut spots = Vec::new(alloc);
     for numbered in listed {
@@ -369,7 +394,8 @@ fn spots_of(
 
 /// TakesIn the spots of the detections of these numbers.
 fn push_spots(spots: &mut Vec<Spot>, register: &Register, numbers: &[u32]) -> Result<(), NoMemory>
-    ensures { OnOk result (spots.new.items ≡ spots.old.items ++ map spot_of (entries_of register.now numbers.now)) }
+    ensures { OnOk result (spots.new.items ≡ spots.old.items
+        ++ map spot_of (entries_of register.now numbers.now)) }
 {
     for number in numbers {
         if let Some(detection) = register.get(*number) {

@@ -92,7 +92,8 @@ impl HeldNights {
     /// Puts an exposure at its place in a night that has room for it. This takes no memory.
     pub(crate) fn insert(&mut self, place: NightPlace, numbered: NumberedExposure)
         requires night { place.night ≡ night_at self.old.shift numbered.epoch }
-        requires free { IsFree numbered.epoch numbered.site (listed_of_night self.old place.night) place.index }
+        requires free { IsFree numbered.epoch numbered.site
+            (listed_of_night self.old place.night) place.index }
         requires room { HasRoom self.old.by_night place.night }
         ensures shift { self.new.shift ≡ self.old.shift }
         ensures listed { PutsIn (listed_of self.old) numbered (listed_of self.new) }
@@ -122,7 +123,8 @@ impl HeldNights {
         ensures shift { self.new.shift ≡ self.old.shift }
         ensures some { IfSome result (λ out. TakesNight night self.old out.items self.new) }
         ensures fewer { IfSome result (λ _. length self.new.by_night < length self.old.by_night) }
-        ensures none { IfNone result (All (λ g. lt_z (night_at self.old.shift g.epoch) night ≡ false) (listed_of self.old)) }
+        ensures none { IfNone result
+            (All (λ g. lt_z (night_at self.old.shift g.epoch) night ≡ false) (listed_of self.old)) }
         ensures same { IfNone result (self.new ≡ self.old) }
     {
         let (first, _) = self.by_night.first_key_value()?;
@@ -141,7 +143,8 @@ fn add_night(
     night: i64,
 ) -> Result<(), NoMemory>
     ensures listed { all_listed by_night.new.entries ≡ all_listed by_night.old.entries }
-    ensures nights { (shift : ℤ) → AreByNight shift by_night.old.entries → AreByNight shift by_night.new.entries }
+    ensures nights { (shift : ℤ) → AreByNight shift by_night.old.entries →
+        AreByNight shift by_night.new.entries }
     ensures there { OnOk result (IsSome (list_of by_night.new.entries night)) }
 {
     if !by_night.contains_key(&night) {
@@ -157,7 +160,8 @@ fn reserve_one(
 ) -> Result<(), NoMemory>
     requires { IsSome (list_of by_night.old.entries night) }
     ensures listed { all_listed by_night.new.entries ≡ all_listed by_night.old.entries }
-    ensures nights { (shift : ℤ) → AreByNight shift by_night.old.entries → AreByNight shift by_night.new.entries }
+    ensures nights { (shift : ℤ) → AreByNight shift by_night.old.entries →
+        AreByNight shift by_night.new.entries }
     ensures room { OnOk result (HasRoom by_night.new.entries night) }
 {
     match by_night.get_mut(&night) {

@@ -23,7 +23,7 @@ pub(crate) struct NumberedExposure {
 }
 
 impl NumberedExposure {
-    /// How the exposure's place compares with an epoch and a site.
+    /// How the exposure compares with another epoch and site.
     fn compare(&self, epoch: i64, site: &[u8]) -> Ordering
         ensures { result ≡ numbered_cmp epoch site.now self.now }
     {
@@ -36,8 +36,11 @@ impl NumberedExposure {
 /// The place of the exposure of this epoch and site, or the place where it would stand.
 pub(crate) fn search(listed: &[NumberedExposure], epoch: i64, site: &[u8]) -> Result<usize, usize>
     requires { RiseStrictly listed.now }
-    ensures found { IfOk result (λ i. (i < length listed.now) × ((g : NumberedExposure) → numbered_cmp epoch site.now (slice_index_or listed.now i g) ≡ Equal)) }
-    ensures missing { IfErr result (λ i. (i ≤ length listed.now) × IsPartitionPoint (λ g. numbered_cmp epoch site.now g ≡ Less) (λ g. numbered_cmp epoch site.now g ≡ Greater) listed.now i) }
+    ensures found { IfOk result (λ i. (i < length listed.now) × ((g : NumberedExposure) →
+        numbered_cmp epoch site.now (slice_index_or listed.now i g) ≡ Equal)) }
+    ensures missing { IfErr result (λ i. (i ≤ length listed.now) ×
+        IsPartitionPoint (λ g. numbered_cmp epoch site.now g ≡ Less)
+        (λ g. numbered_cmp epoch site.now g ≡ Greater) listed.now i) }
 {
     listed.binary_search_by(|numbered| numbered.compare(epoch, site))
 }
@@ -55,8 +58,11 @@ pub(crate) fn insert(listed: &mut Vec<NumberedExposure>, place: usize, numbered:
 pub(crate) fn let_go_listed(register: &mut Register, listed: &[NumberedExposure])
     requires order { RiseStrictly listed.now }
     requires each { All (IsNumbered register.old) listed.now }
-    ensures at { (n : ℕ) → slot register.new n ≡ cond (list_any (λ g. list_any (λ k. k == n) g.numbers.items) listed.now) None (slot register.old n) }
-    ensures count { count_held register.new + sum_by (λ g. length g.numbers.items) listed.now ≡ count_held register.old }
+    ensures at { (n : ℕ) → slot register.new n ≡
+        cond (list_any (λ g. list_any (λ k. k == n) g.numbers.items) listed.now) None
+        (slot register.old n) }
+    ensures count { count_held register.new + sum_by (λ g. length g.numbers.items) listed.now ≡
+        count_held register.old }
 {
     for numbered in listed {
         let_go_all(register, numbered.numbers.as_slice());

@@ -1,3 +1,4 @@
+pub mod Along
 pub mod Bounds
 pub mod OneDay
 pub mod Pieces

@@ -1,9 +1,9 @@
 -- Two spots of a line lie on a line: they reach each other at the greatest rate, but for the tolerance.
-use Rattle.std.proofs.Common.{◌≡◌, ℕ, ◌<◌, ◌≤◌, ℤ, pos, neg_ℤ, ◌+ℤ◌, ◌-ℤ◌, ◌*ℤ◌, ◌≤ℤ◌, ◌<ℤ◌, true, ◌&&◌, List, [], ◌∷◌, length, get_or, arith}
+use Rattle.std.proofs.Common.{◌≡◌, ℕ, ◌<◌, ℤ, pos, neg_ℤ, ◌+ℤ◌, ◌-ℤ◌, ◌*ℤ◌, ◌≤ℤ◌, ◌<ℤ◌, true, ◌&&◌, List, length, get_or, arith}
 use Rattle.std.specs.List.{list_all}
 use Rattle.sky_math.proofs.Lines.{at_most_chain}
 use Rattle.sky_math.proofs.Order.{linear}
-use Rattle.sky_math.proofs.Ring.{add_mul, sub_mul, neg_mul, mul_comm}
+use Rattle.sky_math.proofs.Ring.{add_mul, sub_mul, neg_mul}
 use Rattle.sky_math.specs.Quadratics.{IsWithin}
 use Rattle.sky_units.specs.Arcs.{HaveRisingEpochs}
 use Rattle.sky_units.specs.Motion.{offset}

@@ -1,19 +1,15 @@
 -- The least and the greatest slope of the lines near some spots.
-use Rattle.std.proofs.Common.{◌≡◌, ◌≤◌, ◌<◌, ℤ, pos, ◌-ℤ◌, ◌*ℤ◌, ◌≤ℤ◌, ◌<ℤ◌, List, length, get_or, refl, sym, subst, arith}
-use Rattle.std.specs.Prelude.{Option, Some, None}
-use Rattle.std.specs.List.{All}
+use Rattle.std.proofs.Common.{◌≡◌, ◌≤◌, ℤ, pos, ◌-ℤ◌, ◌*ℤ◌, ◌≤ℤ◌, ◌<ℤ◌, List, length, get_or, refl, arith}
+use Rattle.std.specs.Prelude.{Some, None}
 use Rattle.std.proofs.lemmas.Int.{ints}
-use Rattle.std.proofs.lemmas.List.{get_or_read}
 use Rattle.sky_math.proofs.Lines.{at_most_chain}
 use Rattle.sky_math.proofs.Order.{linear}
 use Rattle.sky_math.specs.Lists.{EachTwo}
-use Rattle.sky_units.proofs.Fractions.{num_most}
 use Rattle.sky_units.specs.Arcs.{HaveRisingEpochs, IsArc}
 use Rattle.sky_units.specs.FracData.{FracData, HaveOneValue, IsFrac, IsInLowestTerms}
-use Rattle.sky_units.specs.Motion.{points}
 use Rattle.sky_units.specs.SpotData.{SpotData}
 use Rattle.sky_units.specs.declared.axis.Axis.{Axis}
-use Rattle.line_fit.specs.Lines.{Line, IsNearPoint, least_slope, greatest_slope}
+use Rattle.line_fit.specs.Lines.{least_slope, greatest_slope}
 use Rattle.line_fit.specs.Slopes.{HasSlope, NoSlope, IsSlopeRange, IsNarrowed, Suits}
 use Rattle.line_fit.specs.declared.slopes.Slopes.{Slopes}
 use Rattle.line_fit.proofs.Bounds.{holds_low, holds_high}

@@ -1,16 +1,14 @@
 -- Each loop over two spots narrows the slopes by what it has seen.
-use Rattle.std.proofs.Common.{◌≡◌, ℕ, ◌+◌, ◌<◌, ◌≤◌, ℤ, pos, ◌-ℤ◌, ◌≤ℤ◌, ◌<ℤ◌, List, length, get_or, sym, subst, arith}
+use Rattle.std.proofs.Common.{◌≡◌, ℕ, ◌+◌, ◌<◌, ℤ, List, length, get_or, sym, subst, arith}
 use Rattle.std.specs.Prelude.{Option, Some, None}
 use Rattle.std.proofs.lemmas.Bool.{cases_lt}
 use Rattle.std.proofs.lemmas.List.{get_or_read}
 use mathlib.Core.Logic.{inl, inr}
 use Rattle.sky_math.specs.Lists.{EachTwo}
-use Rattle.sky_units.specs.Arcs.{HaveRisingEpochs}
-use Rattle.sky_units.specs.FracData.{FracData}
 use Rattle.sky_units.specs.SpotData.{SpotData}
 use Rattle.sky_units.specs.declared.axis.Axis.{Axis}
 use Rattle.line_fit.specs.Lines.{least_slope, greatest_slope}
-use Rattle.line_fit.specs.Slopes.{AreOfOneDay, Holds, IsNarrowed, Suits, SuitsEarlier}
+use Rattle.line_fit.specs.Slopes.{Holds, IsNarrowed, Suits, SuitsEarlier}
 use Rattle.line_fit.specs.declared.slopes.Slopes.{Slopes}
 use Rattle.line_fit.proofs.Bounds.{narrowed_then, narrowed_same}
 

@@ -1,12 +1,11 @@
 -- The slopes of each two spots tell whether there is a line: the greatest of the lower ones is a slope of one.
-use Rattle.std.proofs.Common.{◌≡◌, ℕ, ◌+◌, ◌<◌, ◌≤◌, ℤ, pos, neg_ℤ, ◌+ℤ◌, ◌-ℤ◌, ◌*ℤ◌, ◌≤ℤ◌, ◌<ℤ◌, Bool, true, ◌&&◌, List, [], ◌∷◌, map, length, get_or, refl, sym, subst, ap, ◌∙◌, arith}
+use Rattle.std.proofs.Common.{◌≡◌, ℕ, ◌<◌, ℤ, pos, neg_ℤ, ◌+ℤ◌, ◌-ℤ◌, ◌*ℤ◌, ◌≤ℤ◌, ◌<ℤ◌, true, ◌&&◌, List, [], ◌∷◌, map, length, get_or, refl, arith}
 use Rattle.std.proofs.lemmas.Bool.{cases_order}
 use Rattle.std.proofs.lemmas.Int.{ints, by_lt_z}
 use Rattle.std.proofs.lemmas.List.{get_or-map, length-map, get_or_default}
 use Rattle.std.proofs.lemmas.List.Elements.{All-cons, All-map}
 use Rattle.std.proofs.lemmas.List.Sums.{AllPass-from_list_all, list_all-from_AllPass}
-use Rattle.std.specs.Int.Signed.{le_z, lt_z}
-use Rattle.std.specs.List.{All, Contains, list_all}
+use Rattle.std.specs.List.{All, list_all}
 use Rattle.std.specs.Prelude.{IsTrue, ◌↔◌}
 use Prim.Native.Nat.{zero, suc}
 use mathlib.Core.Logic.{◌⊎◌, inl, inr}
@@ -18,17 +17,17 @@ use Rattle.sky_math.specs.Lists.{EachTwo}
 use Rattle.sky_math.specs.Quadratics.{IsWithin, Point}
 use Rattle.sky_units.proofs.Between.{offset_between}
 use Rattle.sky_units.proofs.EpochOrder.{lt_of_test, test_of_lt}
-use Rattle.sky_units.specs.Arcs.{AreNear, HaveRisingEpochs, MeetSpreadRule, quarter_turn}
+use Rattle.sky_units.specs.Arcs.{AreNear, HaveRisingEpochs, MeetSpreadRule}
 use Rattle.sky_units.specs.FracData.{FracData}
 use Rattle.sky_units.specs.Motion.{offset, point_from, points}
 use Rattle.sky_units.specs.Pairs.{EpochsDontFall}
 use Rattle.sky_units.specs.SpotData.{SpotData}
 use Rattle.sky_units.specs.declared.axis.Axis.{Axis}
 use Rattle.sky_units.specs.declared.axis.Axis.TheVariants.{Ra, Dec}
-use Rattle.line_fit.specs.Lines.{Line, IsNearPoint, KeepsRate, HasLine, AreOnLine, each_two, least_slope, greatest_slope, per_tick, is_at_most, slopes_meet, follows_near, lies_on_line}
+use Rattle.line_fit.specs.Lines.{Line, IsNearPoint, HasLine, AreOnLine, each_two, least_slope, greatest_slope, per_tick, is_at_most, slopes_meet, follows_near, lies_on_line}
 use Rattle.line_fit.specs.Quotients.{IsAtMost, IsAtLeast}
-use Rattle.line_fit.specs.Slopes.{HasSlope, Suits}
-use Rattle.line_fit.proofs.Twos.{both, and_of, all_left, all_right, all_unmapped, all_rest, all_of_two, two_of_all}
+use Rattle.line_fit.specs.Slopes.{Suits}
+use Rattle.line_fit.proofs.Twos.{both, and_of, all_unmapped, all_rest, all_of_two, two_of_all}
 
 -- ---- bounds that all lie on the right side of some quotient
 record Between (lowers uppers : List FracData) : Type 0 where

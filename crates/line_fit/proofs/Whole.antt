@@ -13,7 +13,7 @@ use Rattle.line_fit.specs.Lines.{each_two, follows_near, lies_on_line, per_tick,
 use Rattle.line_fit.specs.Slopes.{AreOfOneDay, IsNarrowed, Suits}
 use Rattle.line_fit.specs.declared.slopes.Slopes.{Slopes}
 use Rattle.line_fit.proofs.Bounds.{holds_low}
-use Rattle.line_fit.proofs.Tells.{SomeSlope, follow_of_test, meets_of_some_slope, some_slope_of_meets, test_of_follow}
+use Rattle.line_fit.proofs.Tells.{follow_of_test, meets_of_some_slope, some_slope_of_meets, test_of_follow}
 
 not_true : (b : Bool) → (b ≡ true → ⊥) → false ≡ b
 not_true true n = absurd (n refl)

@@ -53,3 +53,7 @@ Suits axis tol a b x y = IsAtMost (least_slope axis tol (x, y)) a b × IsAtLeast
 -- a/b suits the spot at the place k and each before it
 abbrev pub SuitsEarlier : Axis → ℤ → List SpotData → ℕ → ℤ → ℤ → Type 0
 SuitsEarlier axis tol spots k a b = (i : ℕ) (d : SpotData) → i < k → Suits axis tol a b (slice_index_or spots i d) (slice_index_or spots k d)
+
+-- a/b suits the first spot and each other one before the place n
+abbrev pub AreSuited : Axis → ℤ → ℤ → ℤ → List SpotData → ℕ → Type 0
+AreSuited axis tol a b spots n = (i : ℕ) (d : SpotData) → 0 < i → i < n → Suits axis tol a b (slice_index_or spots 0 d) (slice_index_or spots i d)

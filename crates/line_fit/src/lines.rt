@@ -1,11 +1,11 @@
 //! Whether spots of one night lie on a line, and how steep such lines are.
 
-ghost use Rattle.std.specs.Prelude.{◌≡◌, ◌<◌, ◌≤◌, pos, length, MatchOption};
+ghost use Rattle.std.specs.Prelude.{◌≡◌, ◌<◌, ◌≤◌, pos, true, length, MatchOption};
 ghost use Rattle.sky_units.specs.Arcs.{IsArc};
 ghost use Rattle.sky_units.specs.Pairs.{EpochsDontFall};
 ghost use Rattle.sky_units.specs.Ranges.{IsBetween};
 ghost use Rattle.line_fit.specs.Lines.{lies_on_line, slopes_meet};
-ghost use Rattle.line_fit.specs.Slopes.{AreOfOneDay, NoSlope, IsSlopeRange};
+ghost use Rattle.line_fit.specs.Slopes.{AreOfOneDay, AreSuited, NoSlope, IsSlopeRange};
 
 use crate::narrowing::narrow;
 use crate::quotients::Slope;
@@ -38,7 +38,44 @@ fn axis_fits(spots: &[Spot], axis: Axis, tol: i64, rate: i64) -> bool
     requires rate { IsBetween (pos 0) (pos 10000000) rate }
     ensures { result ≡ slopes_meet axis tol rate spots.now }
 {
+    if lies_along(spots, axis, tol, rate) {
+        return true;
+    }
     narrow(spots, axis, tol, of_rate(rate)).is_some()
+}
+
+/// Whether the line through the first and the last spot keeps the rate, and is near all others: then
+/// no two of them need be compared.
+fn lies_along(spots: &[Spot], axis: Axis, tol: i64, rate: i64) -> bool
+    requires arc { IsArc spots.now }
+    requires day { AreOfOneDay spots.now }
+    requires tol { IsBetween (pos 0) (pos 100000) tol }
+    requires rate { IsBetween (pos 0) (pos 10000000) rate }
+    ensures { result ≡ true → slopes_meet axis tol rate spots.now ≡ true }
+{
+    if spots.len() < 2 {
+        return false;
+    }
+    let along = of_two(axis, &spots[0], &spots[spots.len() - 1], 0).low;
+    if !of_rate(rate).hold(&along) {
+        return false;
+    }
+    are_near(spots, axis, tol / 2, along)
+}
+
+/// Whether a line through the first spot with this slope is at most twice `tol` away from each other one.
+fn are_near(spots: &[Spot], axis: Axis, tol: i64, along: Slope) -> bool
+    requires arc { IsArc spots.now }
+    requires day { AreOfOneDay spots.now }
+    requires tol { IsBetween (pos 0) (pos 100000) tol }
+    ensures { result ≡ true → AreSuited axis tol along.num along.den spots.now (length spots.now) }
+{
+    for at in 1..spots.len() {
+        if !of_two(axis, &spots[0], &spots[at], tol).hold(&along) {
+            return false;
+        }
+    }
+    true
 }
 
 /// The least and the greatest slope, in lowest terms and in 10^-6 degree per tick, of the lines on an
@@ -49,7 +86,8 @@ pub fn slope_range(spots: &[Spot], axis: Axis, tol: i64) -> Option<(Frac, Frac)>
     requires day { AreOfOneDay spots.now }
     requires two { 2 ≤ length spots.now }
     requires tol { IsBetween (pos 0) (pos 100000) tol }
-    ensures { MatchOption result (NoSlope axis tol spots.now) (λ range. IsSlopeRange axis tol spots.now range.0 range.1) }
+    ensures { MatchOption result (NoSlope axis tol spots.now)
+        (λ range. IsSlopeRange axis tol spots.now range.0 range.1) }
 {
     let widest = of_two(axis, &spots[0], &spots[1], tol);
     let range = narrow(spots, axis, tol, widest)?;

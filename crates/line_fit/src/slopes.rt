@@ -1,6 +1,6 @@
 //! Slopes on one axis, and those that two lists of bounds have in common.
 
-ghost use Rattle.std.specs.Prelude.{◌≡◌, ℤ, pos, neg_ℤ, ◌-ℤ◌, ◌≤ℤ◌, ◌<ℤ◌, ◌↔◌};
+ghost use Rattle.std.specs.Prelude.{◌≡◌, true, ℤ, pos, neg_ℤ, ◌-ℤ◌, ◌≤ℤ◌, ◌<ℤ◌, ◌↔◌};
 ghost use Rattle.sky_units.specs.Ranges.{IsBetween};
 ghost use Rattle.line_fit.specs.Lines.{per_tick, least_slope, greatest_slope};
 ghost use Rattle.line_fit.specs.Quotients.{IsAtMost, IsAtLeast};
@@ -13,6 +13,15 @@ use sky_units::{Axis, Spot, offset};
 pub struct Slopes {
     pub low: Slope,
     pub high: Slope,
+}
+
+impl Slopes {
+    /// Whether a slope is among these.
+    pub fn hold(&self, slope: &Slope) -> bool
+        ensures { result ≡ true → Holds self.now slope.now.num slope.now.den }
+    {
+        self.low.is_at_most(slope) && slope.is_at_most(&self.high)
+    }
 }
 
 /// The ticks of a day, over which rates are counted.
@@ -63,7 +72,8 @@ pub fn of_two(axis: Axis, from: &Spot, to: &Spot, tol: i64) -> Slopes
 /// The greater of two slopes.
 fn greater(a: Slope, b: Slope) -> Slope
     ensures positive { pos 0 <ℤ result.den }
-    ensures bounds { (n d : ℤ) → pos 0 <ℤ d → IsAtMost result n d ↔ (IsAtMost a n d × IsAtMost b n d) }
+    ensures bounds { (n d : ℤ) → pos 0 <ℤ d →
+        IsAtMost result n d ↔ (IsAtMost a n d × IsAtMost b n d) }
 {
     let _ = &a.den;
     let _ = &b.den;
@@ -73,7 +83,8 @@ fn greater(a: Slope, b: Slope) -> Slope
 /// The lesser of two slopes.
 fn lesser(a: Slope, b: Slope) -> Slope
     ensures positive { pos 0 <ℤ result.den }
-    ensures bounds { (n d : ℤ) → pos 0 <ℤ d → IsAtLeast result n d ↔ (IsAtLeast a n d × IsAtLeast b n d) }
+    ensures bounds { (n d : ℤ) → pos 0 <ℤ d →
+        IsAtLeast result n d ↔ (IsAtLeast a n d × IsAtLeast b n d) }
 {
     let _ = &a.den;
     let _ = &b.den;

@@ -7,3 +7,4 @@ pub mod Parts
 pub mod CanonicalOrder
 pub mod Examples
 pub mod Written
+pub mod ValidReports

@@ -26,7 +26,24 @@ impl Model for Detection {
 
     ghost Value = { Observation };
 
-    ghost view = { λ d. record { id = d.id; epoch = d.epoch; ra = d.ra; dec = d.dec; mag = d.mag; site = d.site; name = d.name } };
+    ghost view = { λ d. record {
+      id = d.id;
+      epoch = d.epoch;
+      ra = d.ra;
+      dec = d.dec;
+      mag = d.mag;
+      site = d.site;
+      name = d.name;
+    } };
 
-    ghost invariant = { λ d. IsDetection (record { id = d.id; epoch = d.epoch; ra = d.ra; dec = d.dec; mag = d.mag; site = d.site; name = d.name }) };
+    ghost invariant = { λ d. IsDetection
+        (record {
+          id = d.id;
+          epoch = d.epoch;
+          ra = d.ra;
+          dec = d.dec;
+          mag = d.mag;
+          site = d.site;
+          name = d.name;
+        }) };
 }

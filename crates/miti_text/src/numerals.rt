@@ -79,7 +79,8 @@ fn read_size(digits: &[u8]) -> Option<u64>
 
 /// The number that digits write, or `MOST` where it is greater; None where some byte is no digit.
 pub fn read_digits(text: &[u8]) -> Option<u64>
-    ensures { result ≡ (if list_all is_ascii_digit text.now then Some (min (digits_value 10 text.now) (10 ^ 18)) else None) }
+    ensures { result ≡ (if list_all is_ascii_digit text.now
+        then Some (min (digits_value 10 text.now) (10 ^ 18)) else None) }
 {
     let mut value = 0;
     for byte in text {

@@ -6,7 +6,8 @@ ghost use Rattle.miti_text.specs.Words.{is_blank, words, ends_word};
 /// The first word of a text and what follows it; None where the text has no word. A word is what
 /// stands between spaces and tabs.
 pub fn next_word(text: &[u8]) -> Option<(&[u8], &[u8])>
-    ensures { MatchOption result (words text.now ≡ []) (λ found. words text.now ≡ found.0.now ∷ words found.1.now) }
+    ensures { MatchOption result (words text.now ≡ []) (λ found. words text.now ≡
+        found.0.now ∷ words found.1.now) }
 {
     let text = without_blanks(text);
     let end = word_len(text);

@@ -119,7 +119,8 @@ fn have_digits(whole: &[u8], fraction: &[u8]) -> bool
 /// Whether so many whole units and the digits of a fraction are together at most `limit`.
 fn is_within(count: u64, fraction: &[u8], limit: u64) -> bool
     requires { list_all is_ascii_digit fraction.now ≡ true }
-    ensures { result ≡ nat_le (count * denominator fraction.now + digits_value 10 fraction.now) (limit * denominator fraction.now) }
+    ensures { result ≡ nat_le (count * denominator fraction.now + digits_value 10 fraction.now)
+        (limit * denominator fraction.now) }
 {
     if count == limit {
         are_zeros(fraction)
@@ -139,7 +140,9 @@ fn are_zeros(digits: &[u8]) -> bool
 /// upward; None where some byte is no digit.
 fn read_fraction(fraction: &[u8], places: usize) -> Option<u64>
     requires { places ≤ 6 }
-    ensures value { result ≡ (if list_all is_ascii_digit fraction.now then Some (nearest (digits_value 10 fraction.now * 10 ^ places) (denominator fraction.now)) else None) }
+    ensures value { result ≡ (if list_all is_ascii_digit fraction.now
+        then Some (nearest (digits_value 10 fraction.now * 10 ^ places) (denominator fraction.now))
+        else None) }
     ensures range { IfSome result (λ units. units ≤ 10 ^ places) }
 {
     let kept = places.min(fraction.len());

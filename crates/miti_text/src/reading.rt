@@ -120,7 +120,8 @@ fn is_text_byte(byte: u8) -> bool
 
 /// The first seven words of a text; None where it has fewer.
 fn seven_words(text: &[u8]) -> Option<Seven<'_>>
-    ensures value { MatchOption result (length (words text.now) < 7) (λ seven. AreFirst seven (words text.now)) }
+    ensures value { MatchOption result (length (words text.now) < 7)
+        (λ seven. AreFirst seven (words text.now)) }
     ensures range { IfSome result HaveRanges }
 {
     let (id, text) = next_word(text)?;
@@ -148,7 +149,8 @@ fn parse_words<'a>(words: &Seven<'a>) -> Result<Parsed<'a>, LineError>
     requires site { is_shown words.now.site.now ≡ true }
     requires name { is_shown words.now.name.now ≡ true }
     requires ranges { HaveRanges words.now }
-    ensures value { Gives seen (fields_of words.now.id.now words.now.epoch words.now.ra words.now.dec words.now.mag words.now.site.now words.now.name.now) result }
+    ensures value { Gives seen (fields_of words.now.id.now words.now.epoch words.now.ra
+        words.now.dec words.now.mag words.now.site.now words.now.name.now) result }
     ensures range { IfOk result (λ parsed. IsDetection (seen parsed)) }
 {
     if !is_id(words.id) {

@@ -39,7 +39,8 @@ struct ShortDecimal<'a> {
 /// the word; None where the text has no word.
 #[inline(always)]
 pub fn next_quantity(quantity: Quantity, text: &[u8]) -> Option<(Option<i64>, &[u8])>
-    ensures value { MatchOption result (words text.now ≡ []) (λ found. (word : List ℕ) × (words text.now ≡ word ∷ words found.1.now) × (found.0 ≡ quantity_of quantity word)) }
+    ensures value { MatchOption result (words text.now ≡ []) (λ found. (word : List ℕ) ×
+        (words text.now ≡ word ∷ words found.1.now) × (found.0 ≡ quantity_of quantity word)) }
     ensures range { IfSome result (λ found. IfSome found.0 (IsKept quantity)) }
 {
     let text = without_blanks(text);
@@ -54,7 +55,8 @@ pub fn next_quantity(quantity: Quantity, text: &[u8]) -> Option<(Option<i64>, &[
 /// short decimal in its range and nothing stands before it.
 #[inline(always)]
 fn short_quantity(quantity: Quantity, text: &[u8]) -> Option<(i64, &[u8])>
-    ensures value { IfSome result (λ found. (word : List ℕ) × (words text.now ≡ word ∷ words found.1.now) × (quantity_of quantity word ≡ Some found.0)) }
+    ensures value { IfSome result (λ found. (word : List ℕ) ×
+        (words text.now ≡ word ∷ words found.1.now) × (quantity_of quantity word ≡ Some found.0)) }
     ensures range { IfSome result (λ found. IsKept quantity found.0) }
 {
     let (negative, unsigned) = split_sign(text);
@@ -126,7 +128,8 @@ fn units_within(value: u64, written: usize, limit: u64, places: usize) -> Option
     requires written { written ≤ 12 }
     requires limit { limit ≤ 200000 }
     requires places { places ≤ 6 }
-    ensures value { result ≡ (if nat_le value (limit * 10 ^ written) then Some (nearest (value * 10 ^ places) (10 ^ written)) else None) }
+    ensures value { result ≡ (if nat_le value (limit * 10 ^ written)
+        then Some (nearest (value * 10 ^ places) (10 ^ written)) else None) }
     ensures range { IfSome result (λ units. units ≤ limit * 10 ^ places) }
 {
     if value > limit * power_of_ten(written) {

@@ -15,7 +15,7 @@ use Rattle.mops_run.specs.Answering.{FailsToAnswer, Finished, FailsToFinish}
 use Rattle.mops_run.specs.Promise.{WritesAll, WritesFront, Watches, IsSpent, SourceFaults, SinkFaults, refused_by, done_status}
 use Rattle.mops_run.specs.declared.top.Status.{Status}
 use Rattle.mops_run.specs.declared.top.Status.TheVariants.{Done, DoneWithRefusals, Usage, ReadFault, WriteFault, NoMemory, InputTooLong}
-use Rattle.mops_run.proofs.SoFar.{SoFar, NextLine, WritesText-then, WritesFront-so_far, WritesFront-failed, WritesFront-unfinished, WritesFront-whole, WritesAll-end, Takes-within, or_true, risen-then}
+use Rattle.mops_run.proofs.SoFar.{SoFar, NextLine, WritesText-then, WritesFront-so_far, WritesFront-failed, WritesFront-unfinished, WritesFront-whole, WritesAll-end, Takes-within, Takes-too_long, or_true}
 
 -- a write failed in the middle of the replies to a line
 pub Watches-write_fault : (source_old : Supply) (reader reader' : Reading) (source source' : Supply) (sink_old sink sink' : Receipt) (number : ℕ) (state : State) (refused : Bool)
@@ -83,12 +83,7 @@ Watches-too_long source_old reader reader' source source' sink_old sink number s
       flushed = λ _. so.adds.whole;
       source_faults = same ∙ so.faults;
       sink_faults = so.adds.faults;
-      taken = (
-        reader'.took,
-        risen-then source_old.taken source.taken source'.taken reader.took reader'.took so.taken counts.taken counts.rises,
-        counts.within,
-        (λ _. limit.0 is, λ _. refl),
-      );
+      taken = Takes-too_long source_old source source' reader reader' so.taken counts (limit.0 is);
       used = λ h. cc;
     }
 

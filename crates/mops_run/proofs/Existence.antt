@@ -1,12 +1,12 @@
 -- Each list of lines has a list of replies, since nights have a report list.
-use Rattle.std.proofs.Common.{◌≡◌, ℕ, ℤ, ◌+◌, ◌++◌, List, [], ◌∷◌, length, refl, ap, ◌∙◌, true, if◌then◌else◌}
-use Rattle.std.specs.Prelude.{Option, Some, None, is_some, IsTrue, MatchOption, MatchResult, Result, Ok, Err}
+use Rattle.std.proofs.Common.{◌≡◌, ℕ, ℤ, ◌+◌, ◌++◌, List, [], ◌∷◌, length, refl, ap, ◌∙◌, if◌then◌else◌, rules}
+use Rattle.std.specs.Prelude.{Option, Some, None, is_some, IfOk, IsTrue, MatchOption, MatchResult, Result, Ok, Err}
 use Rattle.std.specs.List.{All, flat_map}
 use Rattle.std.proofs.lemmas.List.Elements.{All-nil, All-cons, All-head, All-tail, All-append}
 use Rattle.std.proofs.lemmas.List.Sorted.{All-permutation}
 use Rattle.miti_text.specs.Observation.{Observation, is_id}
 use Rattle.script_text.specs.declared.errors.ScriptError.{ScriptError}
-use Rattle.sky_units.specs.SettingsData.{SettingsData, standard_settings}
+use Rattle.sky_units.specs.SettingsData.{AreSettings, SettingsData, standard_settings}
 use Rattle.sky_units.specs.SettingNames.{set_named}
 use Rattle.sky_units.specs.declared.setting_names.SetError.{SetError}
 use Rattle.sky_units.specs.declared.setting_names.SetError.TheVariants.{Late}
@@ -34,6 +34,7 @@ use Rattle.mops_run.specs.Lines.{said_by}
 use Rattle.mops_run.specs.Replies.{Replies, RepliesLast}
 use Rattle.mops_run.specs.Watch.{Answers, AnswersAll}
 use Rattle.mops_run.proofs.Numbers.{HasIdRule, line_ids}
+use Rattle.mops_run.proofs.SettingsKept.{set_in_range}
 use Rattle.mops_run.proofs.Steps.{replies_last}
 
 -- the id of a detection keeps its rule
@@ -57,16 +58,23 @@ ids_of_each (x ∷ xs) h =
     let rest : List Observation = flat_map (λ x. x.detections) xs in
     All-cons HasIdsOf x xs (all_front x.detections rest h) (ids_of_each xs (all_back x.detections rest h))
 
--- something is given, and a sound linker follows
+-- ---- what each state keeps to
+
+-- it is sound, and its settings lie in their ranges
+record IsProper (s : LinkerState) : Type 0 where
+  state : IsSoundState s
+  settings : AreSettings s.settings
+
+-- something is given, and such a linker follows
 record Leads (Given : Type 0) (relation : Given → LinkerState → Type 0) : Type 0 where
   given : Given
   new : LinkerState
   leads : relation given new
-  sound : IsSoundState new
+  proper : IsProper new
 
 -- ---- a delivery
 
-added : (old : LinkerState) (x : ExposureData) → IsOneExposure x → HasIdsOf x → IsSoundState old → (cause : Option AddError) → refusal old.log x ≡ cause
+added : (old : LinkerState) (x : ExposureData) → IsOneExposure x → HasIdsOf x → IsProper old → (cause : Option AddError) → refusal old.log x ≡ cause
     → Leads Reply (λ reply new. MatchOption cause (IsAccepted old x reply new) (λ error. IsRefused old x error reply new))
 added old x one ids s None passed =
     let taken = add_exists old.log x in
@@ -74,74 +82,77 @@ added old x one ids s None passed =
       given = replies.Added x.epoch x.site (length x.detections);
       new = record { settings = old.settings; log = taken.0 };
       leads = record { settings = refl; log = taken.1; reply_is = refl };
-      sound = record {
-        shift = ap (λ (l : LogData). l.night_shift) taken.1.is ∙ s.shift;
-        orderly = taking_keeps_order old.log taken.0 x one ids s.orderly passed taken.1;
+      proper = record {
+        state = record {
+          shift = ap (λ (l : LogData). l.night_shift) taken.1.is ∙ s.state.shift;
+          orderly = taking_keeps_order old.log taken.0 x one ids s.state.orderly passed taken.1;
+        };
+        settings = s.settings;
       };
     }
 added old x one ids s (Some error) refused = record {
   given = replies.Refused x.epoch x.site error (named_id error x);
   new = old;
   leads = record { same = refl; reply_is = refl };
-  sound = s;
+  proper = s;
 }
 
-all_added : (old : LinkerState) (xs : List ExposureData) → All IsOneExposure xs → All HasIdsOf xs → IsSoundState old → Leads (List Reply) (DeliversAll old xs)
-all_added old [] each ids s = record { given = []; new = old; leads = (refl, refl); sound = s }
+all_added : (old : LinkerState) (xs : List ExposureData) → All IsOneExposure xs → All HasIdsOf xs → IsProper old → Leads (List Reply) (DeliversAll old xs)
+all_added old [] each ids s = record { given = []; new = old; leads = (refl, refl); proper = s }
 all_added old (x ∷ xs) each ids s =
     let first : Leads Reply (DeliversOne old x) = added old x (All-head IsOneExposure x xs each) (All-head HasIdsOf x xs ids) s (refusal old.log x) refl in
-    let rest : Leads (List Reply) (DeliversAll first.new xs) = all_added first.new xs (All-tail IsOneExposure x xs each) (All-tail HasIdsOf x xs ids) first.sound in
-    record { given = first.given ∷ rest.given; new = rest.new; leads = (first.given, rest.given, first.new, first.leads, rest.leads, refl); sound = rest.sound }
+    let rest : Leads (List Reply) (DeliversAll first.new xs) = all_added first.new xs (All-tail IsOneExposure x xs each) (All-tail HasIdsOf x xs ids) first.proper in
+    record { given = first.given ∷ rest.given; new = rest.new; leads = (first.given, rest.given, first.new, first.leads, rest.leads, refl); proper = rest.proper }
 
-delivered : (old : LinkerState) (waiting : List Observation) → All HasId waiting → IsSoundState old → Leads (List Reply) (Delivers old waiting)
+delivered : (old : LinkerState) (waiting : List Observation) → All HasId waiting → IsProper old → Leads (List Reply) (Delivers old waiting)
 delivered old waiting ids s =
     let found = exposures_exist waiting in
     let all : Leads (List Reply) (DeliversAll old found.0) = all_added old found.0 found.1.each (ids_of_each found.0 (All-permutation HasId waiting _ found.1.gathered.parts ids)) s in
-    record { given = all.given; new = all.new; leads = (found.0, found.1, all.leads); sound = all.sound }
+    record { given = all.given; new = all.new; leads = (found.0, found.1, all.leads); proper = all.proper }
 
 -- ---- a command
 
-set_without : (old : LinkerState) (name : List ℕ) (value : ℤ) (settings : SettingsData) → IsSoundState old → (window : Option (ℤ × ℤ)) → old.log.window ≡ window
+set_without : (old : LinkerState) (name : List ℕ) (value : ℤ) (settings : SettingsData) → IsProper old → AreSettings settings → (window : Option (ℤ × ℤ)) → old.log.window ≡ window
     → Leads Reply (λ reply new.
     MatchResult (if is_some window then Err Late else Ok (under old settings)) (λ changed. (new ≡ changed) × (reply ≡ replies.Set name value)) (λ error. (new ≡ old) × (reply ≡ replies.SetRefused error)))
-set_without old name value settings s None none = record {
+set_without old name value settings s are None none = record {
   given = replies.Set name value;
   new = under old settings;
   leads = (refl, refl);
-  sound = record { shift = refl; orderly = shifting_keeps_order old.log settings.night_shift none s.orderly };
+  proper = record { state = record { shift = refl; orderly = shifting_keeps_order old.log settings.night_shift none s.state.orderly }; settings = are };
 }
-set_without old name value settings s (Some window) some = record { given = replies.SetRefused Late; new = old; leads = (refl, refl); sound = s }
+set_without old name value settings s are (Some window) some = record { given = replies.SetRefused Late; new = old; leads = (refl, refl); proper = s }
 
-set_to : (old : LinkerState) (name : List ℕ) (value : ℤ) → IsSoundState old → (found : Result SettingsData SetError)
+set_to : (old : LinkerState) (name : List ℕ) (value : ℤ) → IsProper old → (found : Result SettingsData SetError) → IfOk found AreSettings
     → Leads Reply (λ reply new.
     MatchResult (under_changed old found) (λ changed. (new ≡ changed) × (reply ≡ replies.Set name value)) (λ error. (new ≡ old) × (reply ≡ replies.SetRefused error)))
-set_to old name value s (Ok settings) = set_without old name value settings s old.log.window refl
-set_to old name value s (Err error) = record { given = replies.SetRefused error; new = old; leads = (refl, refl); sound = s }
+set_to old name value s (Ok settings) are = set_without old name value settings s are old.log.window refl
+set_to old name value s (Err error) are = record { given = replies.SetRefused error; new = old; leads = (refl, refl); proper = s }
 
-moved_to : (old : LinkerState) (lo hi : ℤ) → IsSoundState old → (cause : Option WindowError) → window_refusal old.log.window lo hi ≡ cause
+moved_to : (old : LinkerState) (lo hi : ℤ) → IsProper old → (cause : Option WindowError) → window_refusal old.log.window lo hi ≡ cause
     → Leads Reply (λ reply new.
     MatchOption cause ((new ≡ record old { log = moved old.log lo hi }) × (reply ≡ replies.Window lo hi)) (λ error. (new ≡ old) × (reply ≡ replies.WindowRefused error)))
 moved_to old lo hi s None passed = record {
   given = replies.Window lo hi;
   new = record old { log = moved old.log lo hi };
   leads = (refl, refl);
-  sound = record { shift = s.shift; orderly = moving_keeps_order old.log lo hi s.orderly passed };
+  proper = record { state = record { shift = s.state.shift; orderly = moving_keeps_order old.log lo hi s.state.orderly passed }; settings = s.settings };
 }
-moved_to old lo hi s (Some error) refused = record { given = replies.WindowRefused error; new = old; leads = (refl, refl); sound = s }
+moved_to old lo hi s (Some error) refused = record { given = replies.WindowRefused error; new = old; leads = (refl, refl); proper = s }
 
-obeyed : ReportExists → StatsExist → (command : Command) (old : LinkerState) → IsSoundState old → Leads Reply (Obeys command old)
-obeyed reports stats (Set name value) old s = set_to old name value s (set_named name value old.settings)
+obeyed : ReportExists → StatsExist → (command : Command) (old : LinkerState) → IsProper old → Leads Reply (Obeys command old)
+obeyed reports stats (Set name value) old s = set_to old name value s (set_named name value old.settings) (set_in_range name value old.settings s.settings)
 obeyed reports stats (Window lo hi) old s = moved_to old lo hi s (window_refusal old.log.window lo hi) refl
-obeyed reports stats (Tracklets night) old s = record { given = replies.Tracklets night (tracklet_ids old night); new = old; leads = (refl, refl); sound = s }
+obeyed reports stats (Tracklets night) old s = record { given = replies.Tracklets night (tracklet_ids old night); new = old; leads = (refl, refl); proper = s }
 obeyed reports stats report_command old s =
-    let found = reports old s in
-    record { given = replies.Report found.0; new = old; leads = (refl, found.0, found.1, refl); sound = s }
+    let found = reports old s.state s.settings in
+    record { given = replies.Report found.0; new = old; leads = (refl, found.0, found.1, refl); proper = s }
 obeyed reports stats stats_command old s =
-    let found = stats old s in
-    record { given = replies.Stats found.0; new = old; leads = (refl, found.0, found.1, refl); sound = s }
+    let found = stats old s.state in
+    record { given = replies.Stats found.0; new = old; leads = (refl, found.0, found.1, refl); proper = s }
 
-refused : (n : ℕ) (error : ScriptError) (old : LinkerState) → IsSoundState old → Leads Reply (Refuses n error old)
-refused n error old s = record { given = replies.Script n error; new = old; leads = (refl, refl); sound = s }
+refused : (n : ℕ) (error : ScriptError) (old : LinkerState) → IsProper old → Leads Reply (Refuses n error old)
+refused n error old s = record { given = replies.Script n error; new = old; leads = (refl, refl); proper = s }
 
 -- ---- a line, and some lines
 
@@ -152,36 +163,36 @@ record Turns (n : ℕ) (old : LinkerState) (waiting : List Observation) (said : 
   still : List Observation
   turns : Replies n (state_of old waiting) said given (state_of new still)
   ids : All HasId still
-  sound : IsSoundState new
+  proper : IsProper new
 
 -- what waits is delivered, and then an own reply is given
 record TurnsLast (Own : LinkerState → Reply → LinkerState → Type 0) (old : LinkerState) (waiting : List Observation) : Type 0 where
   given : List Reply
   new : LinkerState
   turns : RepliesLast Own (state_of old waiting) given (state_of new [])
-  sound : IsSoundState new
+  proper : IsProper new
 
-turns_last : (Own : LinkerState → Reply → LinkerState → Type 0) → ((l : LinkerState) → IsSoundState l → Leads Reply (Own l)) → (old : LinkerState) (waiting : List Observation) → All HasId waiting → IsSoundState old → TurnsLast Own old waiting
+turns_last : (Own : LinkerState → Reply → LinkerState → Type 0) → ((l : LinkerState) → IsProper l → Leads Reply (Own l)) → (old : LinkerState) (waiting : List Observation) → All HasId waiting → IsProper old → TurnsLast Own old waiting
 turns_last Own owned old waiting ids s =
     let first : Leads (List Reply) (Delivers old waiting) = delivered old waiting ids s in
-    let own : Leads Reply (Own first.new) = owned first.new first.sound in
+    let own : Leads Reply (Own first.new) = owned first.new first.proper in
     record {
       given = first.given ++ own.given ∷ [];
       new = own.new;
       turns = replies_last Own old first.new own.new waiting first.given own.given first.leads own.leads;
-      sound = own.sound;
+      proper = own.proper;
     }
 
-line_turns : ReportExists → StatsExist → (n : ℕ) (old : LinkerState) (waiting : List Observation) (said : Said) → HasIdRule said → All HasId waiting → IsSoundState old → Turns n old waiting said
-line_turns reports stats n old waiting Nothing rule ids s = record { given = []; new = old; still = waiting; ids = ids; turns = (refl, refl); sound = s }
-line_turns reports stats n old waiting (Waits d) rule ids s = record { given = []; new = old; still = waiting ++ d ∷ []; ids = All-append HasId waiting (d ∷ []) ids (All-cons HasId d [] rule (All-nil HasId)); turns = (refl, refl); sound = s }
-line_turns reports stats n old waiting (Refused error) rule ids s = record { given = replies.Line n error ∷ []; new = old; still = waiting; ids = ids; turns = (refl, refl); sound = s }
+line_turns : ReportExists → StatsExist → (n : ℕ) (old : LinkerState) (waiting : List Observation) (said : Said) → HasIdRule said → All HasId waiting → IsProper old → Turns n old waiting said
+line_turns reports stats n old waiting Nothing rule ids s = record { given = []; new = old; still = waiting; ids = ids; turns = (refl, refl); proper = s }
+line_turns reports stats n old waiting (Waits d) rule ids s = record { given = []; new = old; still = waiting ++ d ∷ []; ids = All-append HasId waiting (d ∷ []) ids (All-cons HasId d [] rule (All-nil HasId)); turns = (refl, refl); proper = s }
+line_turns reports stats n old waiting (Refused error) rule ids s = record { given = replies.Line n error ∷ []; new = old; still = waiting; ids = ids; turns = (refl, refl); proper = s }
 line_turns reports stats n old waiting (Asks command) rule ids s =
     let last : TurnsLast (Obeys command) old waiting = turns_last (Obeys command) (obeyed reports stats command) old waiting ids s in
-    record { given = last.given; new = last.new; still = []; ids = All-nil HasId; turns = last.turns; sound = last.sound }
+    record { given = last.given; new = last.new; still = []; ids = All-nil HasId; turns = last.turns; proper = last.proper }
 line_turns reports stats n old waiting (Malformed error) rule ids s =
     let last : TurnsLast (Refuses n error) old waiting = turns_last (Refuses n error) (refused n error) old waiting ids s in
-    record { given = last.given; new = last.new; still = []; ids = All-nil HasId; turns = last.turns; sound = last.sound }
+    record { given = last.given; new = last.new; still = []; ids = All-nil HasId; turns = last.turns; proper = last.proper }
 
 -- the replies to some lines, and what they lead to
 record Runs (n : ℕ) (old : LinkerState) (waiting : List Observation) (input : List (List ℕ)) : Type 0 where
@@ -190,26 +201,29 @@ record Runs (n : ℕ) (old : LinkerState) (waiting : List Observation) (input : 
   still : List Observation
   runs : Answers n (state_of old waiting) input given (state_of new still)
   ids : All HasId still
-  sound : IsSoundState new
+  proper : IsProper new
 
-lines_run : ReportExists → StatsExist → (n : ℕ) (old : LinkerState) (waiting : List Observation) (input : List (List ℕ)) → All HasId waiting → IsSoundState old → Runs n old waiting input
-lines_run reports stats n old waiting [] ids s = record { given = []; new = old; still = waiting; ids = ids; runs = (refl, refl); sound = s }
+lines_run : ReportExists → StatsExist → (n : ℕ) (old : LinkerState) (waiting : List Observation) (input : List (List ℕ)) → All HasId waiting → IsProper old → Runs n old waiting input
+lines_run reports stats n old waiting [] ids s = record { given = []; new = old; still = waiting; ids = ids; runs = (refl, refl); proper = s }
 lines_run reports stats n old waiting (line ∷ more) ids s =
     let now : Turns n old waiting (said_by line) = line_turns reports stats n old waiting (said_by line) (line_ids line) ids s in
-    let later : Runs (n + 1) now.new now.still more = lines_run reports stats (n + 1) now.new now.still more now.ids now.sound in
+    let later : Runs (n + 1) now.new now.still more = lines_run reports stats (n + 1) now.new now.still more now.ids now.proper in
     record {
       given = now.given ++ later.given;
       new = later.new;
       still = later.still;
       ids = later.ids;
       runs = (now.given, later.given, state_of now.new now.still, now.turns, later.runs, refl);
-      sound = later.sound;
+      proper = later.proper;
     }
+
+at_the_start : IsProper start.linker
+at_the_start = record { state = record { shift = refl; orderly = nothing_held standard_settings.night_shift }; settings = search rules }
 
 pub all_answers : ReportExists → StatsExist → (input : List (List ℕ)) → (given : List Reply) × AnswersAll input given
 all_answers reports stats input =
-    let so_far : Runs 1 start.linker [] input = lines_run reports stats 1 start.linker [] input (All-nil HasId) (record { shift = refl; orderly = nothing_held standard_settings.night_shift }) in
-    let last : Leads (List Reply) (Delivers so_far.new so_far.still) = delivered so_far.new so_far.still so_far.ids so_far.sound in (
+    let so_far : Runs 1 start.linker [] input = lines_run reports stats 1 start.linker [] input (All-nil HasId) at_the_start in
+    let last : Leads (List Reply) (Delivers so_far.new so_far.still) = delivered so_far.new so_far.still so_far.ids so_far.proper in (
       so_far.given ++ last.given,
       record {
         so_far = so_far.given;

@@ -6,4 +6,5 @@ pub mod SoFar
 pub mod Endings
 pub mod Numbers
 pub mod Steps
+pub mod SettingsKept
 pub mod Existence

@@ -1,10 +1,10 @@
 -- What holds of a run between two lines.
-use Rattle.std.proofs.Common.{◌≡◌, ℕ, ◌+◌, ◌-◌, ◌^◌, ◌<◌, ◌≤◌, ◌++◌, List, [], ◌∷◌, length, refl, sym, ◌∙◌, ap, subst, append_assoc, append-nil, arith, Bool, true, false, ◌||◌, inl, inr, length-append, lit<}
+use Rattle.std.proofs.Common.{◌≡◌, ℕ, ◌+◌, ◌^◌, ◌<◌, ◌≤◌, ◌++◌, List, [], ◌∷◌, length, refl, sym, ◌∙◌, ap, subst, append_assoc, append-nil, arith, Bool, true, false, ◌||◌, inl, inr, length-append, lit<}
 use Rattle.std.specs.Prelude.{◌⊎◌, Option, Some, None, IfSome, IsSomeAnd, Result, Ok, Err, ◌↔◌}
 use Rattle.std.specs.List.{list_any}
 use Rattle.std.specs.Str.Lines.{lines}
-use Rattle.std.specs.Io.KnownBytes.{IsAtEnd, prepend_known}
-use Rattle.std.proofs.KnownBytes.{Appends-nil, Appends-trans}
+use Rattle.std.specs.Io.KnownBytes.{Consumes, IsAtEnd, prepend_known}
+use Rattle.std.proofs.KnownBytes.{Appends-nil, Appends-trans, Consumes-nil, Consumes-trans}
 use Rattle.std.proofs.lemmas.List.Folds.{list_any-append}
 use Rattle.std.proofs.lemmas.Grind.{flat_map-append}
 use Rattle.outer_io.specs.Supply.{Supply, risen}
@@ -14,7 +14,6 @@ use Rattle.outer_io.specs.declared.line_reader.Got.{Got}
 use Rattle.outer_io.specs.declared.line_reader.Got.TheVariants.{Line, End}
 use Rattle.outer_io.specs.declared.line_reader.ReadStop.{ReadStop}
 use Rattle.outer_io.specs.declared.line_reader.ReadStop.TheVariants.{TooLong}
-use Rattle.script_text.specs.Script.{script_line_of}
 use Rattle.window_incr.specs.LinkerState.{LinkerState}
 use Rattle.mops_run.specs.Deliveries.{Delivers}
 use Rattle.mops_run.specs.State.{State, start}
@@ -40,6 +39,13 @@ use Rattle.mops_run.proofs.Runs.{Answers-append, Answers-split}
 abbrev pub Tells : Option (List ℕ) → Option (List ℕ) → List (List ℕ) → Type 0
 Tells input bytes seen = IfSome input (λ all. IsSomeAnd bytes (λ rest. lines all ≡ seen ++ lines rest))
 
+-- so many bytes were taken from a source, and they were its next ones
+pub record TakesBytes (old new : Supply) (count : ℕ) : Type 0 where
+  pub given : List ℕ
+  pub bytes : Consumes old.left new.left given
+  pub sum : count ≡ length given
+  pub counted : new.taken ≡ risen old.taken count
+
 -- after some lines: the replies to them are written, and they have led to this state
 pub record SoFar (source_old : Supply) (reader : Reading) (source : Supply) (sink_old sink : Receipt) (number : ℕ) (state : State) (refused : Bool) : Type 0 where
   pub seen : List (List ℕ)
@@ -51,7 +57,7 @@ pub record SoFar (source_old : Supply) (reader : Reading) (source : Supply) (sin
   pub refused_is : refused ≡ list_any is_refusal replies
   pub tells : Tells source_old.left (ahead reader source) seen
   pub passed : number ≤ used reader
-  pub taken : source.taken ≡ risen source_old.taken reader.took
+  pub taken : TakesBytes source_old source reader.took
   pub within : reader.took < 2 ^ 32
   pub unstopped : reader.stopped ≡ false
   pub spent : reader.ended ≡ true → (source.ended ≡ true) × IsAtEnd source.left
@@ -69,7 +75,7 @@ SoFar-start source sink = record {
   refused_is = refl;
   tells = told source.left;
   passed = omega arith;
-  taken = omega arith;
+  taken = record { given = []; bytes = Consumes-nil source.left; sum = refl; counted = omega arith };
   within = lit< tt;
   unstopped = refl;
   spent = λ no. cc;
@@ -119,8 +125,18 @@ WritesText-then old mid new text more a b = record {
 }
 
 -- two rises of a count, one behind the other
-pub risen-then : (first mid last m n : ℕ) → mid ≡ risen first m → last ≡ risen mid (n - m) → m ≤ n → last ≡ risen first n
-risen-then first mid last m n a b h = omega (arith, a, b)
+risen-then : (first mid last m more n : ℕ) → mid ≡ risen first m → last ≡ risen mid more → n ≡ m + more → last ≡ risen first n
+risen-then first mid last m more n a b sum = omega (arith, a, b, sum)
+
+-- the bytes of one more step of the reader
+pub takes_more : (source_old : Supply) (reader reader' : Reading) (source source' : Supply) → TakesBytes source_old source reader.took
+    → CountsOn reader reader' source source' → TakesBytes source_old source' reader'.took
+takes_more source_old reader reader' source source' taken counts = record {
+  given = taken.given ++ counts.given;
+  bytes = Consumes-trans source_old.left source.left source'.left taken.given counts.given taken.bytes counts.bytes;
+  sum = omega (arith, taken.sum, counts.counted, length-append taken.given counts.given);
+  counted = risen-then source_old.taken source.taken source'.taken reader.took (length counts.given) reader'.took taken.counted counts.taken counts.counted;
+}
 
 pub or_true : (b : Bool) → (b || true) ≡ true
 or_true true = refl
@@ -155,7 +171,7 @@ SoFar-line source_old reader reader' source source' sink_old sink sink' number s
       refused_is = refused_is ∙ ap (λ b. b || bad) so.refused_is ∙ ap (λ b. list_any is_refusal so.replies || b) bad_is ∙ sym (list_any-append is_refusal so.replies answered.given);
       tells = more.2;
       passed = omega (arith, so.passed, next.progress);
-      taken = risen-then source_old.taken source.taken source'.taken reader.took reader'.took so.taken next.counts.taken next.counts.rises;
+      taken = takes_more source_old reader reader' source source' so.taken next.counts;
       within = next.within;
       unstopped = next.unstopped;
       spent = λ ended. (next.ends.marked next.unended ∙ rw ended (or_true source.ended), next.ends.none_left next.unended ended);
@@ -301,12 +317,28 @@ NextLine-from reader reader' source source' result is line faults counts limit p
     unended true h = let ended : result ≡ Ok End = h refl in cc
     unended false h = refl
 
--- so many bytes were taken, at an end that isn't for too long an input
-pub Takes-within : (status : Status) (source_old source source' : Supply) (reader reader' : Reading) → source.taken ≡ risen source_old.taken reader.took
+-- the bytes that were taken, at an end that isn't for too long an input
+pub Takes-within : (status : Status) (source_old source source' : Supply) (reader reader' : Reading) → TakesBytes source_old source reader.took
     → CountsOn reader reader' source source' → (status ≡ InputTooLong → ⊥) → (reader'.took ≡ 2 ^ 32 → ⊥) → Takes status source_old source'
-Takes-within status source_old source source' reader reader' taken counts other within = (
-  reader'.took,
-  risen-then source_old.taken source.taken source'.taken reader.took reader'.took taken counts.taken counts.rises,
-  counts.within,
-  (λ h. absurd (other h), λ h. absurd (within h)),
-)
+Takes-within status source_old source source' reader reader' taken counts other within =
+    let more = takes_more source_old reader reader' source source' taken counts in
+    record {
+      given = more.given;
+      bytes = more.bytes;
+      counted = subst (λ n. source'.taken ≡ risen source_old.taken n) more.sum more.counted;
+      within = omega (arith, more.sum, counts.within);
+      too_long = (λ h. absurd (other h), λ h. absurd (within (more.sum ∙ h)));
+    }
+
+-- the same, at the end for too long an input
+pub Takes-too_long : (source_old source source' : Supply) (reader reader' : Reading) → TakesBytes source_old source reader.took
+    → CountsOn reader reader' source source' → reader'.took ≡ 2 ^ 32 → Takes InputTooLong source_old source'
+Takes-too_long source_old source source' reader reader' taken counts full =
+    let more = takes_more source_old reader reader' source source' taken counts in
+    record {
+      given = more.given;
+      bytes = more.bytes;
+      counted = subst (λ n. source'.taken ≡ risen source_old.taken n) more.sum more.counted;
+      within = omega (arith, more.sum, counts.within);
+      too_long = (λ _. sym more.sum ∙ full, λ _. refl);
+    }

@@ -1,5 +1,5 @@
 -- How the replies to one line come about.
-use Rattle.std.proofs.Common.{◌≡◌, ℕ, ◌++◌, List, [], ◌∷◌, refl, ap, subst}
+use Rattle.std.proofs.Common.{◌++◌, List, [], ◌∷◌, refl, ap, subst}
 use Rattle.miti_text.specs.Observation.{Observation}
 use Rattle.exposure_log.specs.Held.{ExposureData}
 use Rattle.window_incr.specs.LinkerState.{LinkerState}

@@ -11,7 +11,7 @@ use Rattle.track_report.specs.declared.replies.Reply.TheVariants as replies
 use Rattle.mops_run.specs.declared.lines.Command.{Command}
 use Rattle.mops_run.specs.declared.lines.Command.TheVariants.{Set, Window, Tracklets, Report as report_command, Stats as stats_command}
 
--- the reply to a command, and the linker's state after it
+-- the reply to a command, and the linker's state after it; a report has the reported quadratics of each of its tracks
 abbrev pub Obeys : Command → LinkerState → Reply → LinkerState → Type 0
 Obeys (Set name value) old reply new =
     MatchResult (after_setting name value old) (λ changed. (new ≡ changed) × (reply ≡ replies.Set name value)) (λ error. (new ≡ old) × (reply ≡ replies.SetRefused error))

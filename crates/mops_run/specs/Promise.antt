@@ -1,9 +1,9 @@
 -- What a run of the program promises of the bytes that it reads and writes.
-use Rattle.std.specs.Prelude.{◌≡◌, ◌≢◌, ◌⊎◌, ◌^◌, ◌≤◌, ◌↔◌, ℕ, Bool, true, false, List, [], ◌∷◌, Option, Some, None, IfSome, codes}
+use Rattle.std.specs.Prelude.{◌≡◌, ◌≢◌, ◌⊎◌, ◌^◌, ◌≤◌, ◌<◌, ◌↔◌, ℕ, Bool, true, false, List, [], ◌∷◌, length, Option, Some, None, IfSome, IsSomeAnd, codes}
 use Rattle.std.specs.List.{list_any}
 use Rattle.std.specs.Str.Lines.{lines}
-use Rattle.std.specs.Io.KnownBytes.{IsAtEnd}
-use Rattle.outer_io.specs.Supply.{Supply, Rises, risen}
+use Rattle.std.specs.Io.KnownBytes.{Consumes, IsAtEnd}
+use Rattle.outer_io.specs.Supply.{Supply, Rises, risen, last_count}
 use Rattle.outer_io.specs.Receipt.{Receipt, IsFlushed}
 use Rattle.track_report.specs.Refusals.{is_refusal}
 use Rattle.mops_run.specs.Output.{text_of_all}
@@ -65,10 +65,25 @@ SinkFaults ReadFault old new = new ≡ old
 SinkFaults NoMemory old new = new ≡ old
 SinkFaults InputTooLong old new = new ≡ old
 
--- so many bytes were taken from the source, and the run found the input too long exactly where they are 2^32
-abbrev pub Takes : Status → Supply → Supply → Type 0
-Takes status old new =
-    (count : ℕ) × (new.taken ≡ risen old.taken count) × (count ≤ 2 ^ 32) × ((status ≡ InputTooLong) ↔ (count ≡ 2 ^ 32))
+-- these bytes were taken from the source, its next ones, and the run found the input too long exactly where they are 2^32
+pub record Takes (status : Status) (old new : Supply) : Type 0 where
+  pub given : List ℕ
+  pub bytes : Consumes old.left new.left given
+  pub counted : new.taken ≡ risen old.taken (length given)
+  pub within : length given ≤ 2 ^ 32
+  pub too_long : (status ≡ InputTooLong) ↔ (length given ≡ 2 ^ 32)
+
+-- all was read and answered
+abbrev pub IsDone : Status → Type 0
+IsDone status = (refused : Bool) × (status ≡ done_status refused)
+
+-- the input is told, and has fewer than 2^32 bytes
+abbrev pub IsShort : Option (List ℕ) → Type 0
+IsShort left = IsSomeAnd left (λ input. length input < 2 ^ 32)
+
+-- a count of faults did not rise, and could have
+abbrev pub NoneFailed : ℕ → ℕ → Type 0
+NoneFailed old new = (new ≡ old) × (old < last_count)
 
 -- the run neither failed to write nor wanted memory
 abbrev pub EndsByReading : Status → Type 0

@@ -19,7 +19,8 @@ pub fn deliver(
     tally: &mut Tally,
 ) -> Result<Vec<Reply>, NoMemory>
     requires { length waiting.items < 2 ^ 32 }
-    ensures replies { IfOk result (λ replies. Delivers linker.old.state waiting.items replies.items linker.new.state) }
+    ensures replies { IfOk result (λ replies.
+        Delivers linker.old.state waiting.items replies.items linker.new.state) }
     ensures tally { tally.new ≡ tally.old }
 {
     let exposures = gather(alloc, waiting)?;
@@ -33,7 +34,8 @@ fn add_all(
     exposures: Vec<Exposure>,
     tally: &mut Tally,
 ) -> Result<Vec<Reply>, NoMemory>
-    ensures replies { IfOk result (λ replies. DeliversAll linker.old.state exposures.items replies.items linker.new.state) }
+    ensures replies { IfOk result (λ replies.
+        DeliversAll linker.old.state exposures.items replies.items linker.new.state) }
     ensures tally { tally.new ≡ tally.old }
 {
     let mut replies = Vec::with_capacity(alloc, exposures.len())?;
@@ -50,7 +52,8 @@ fn add(
     exposure: Exposure,
     tally: &mut Tally,
 ) -> Result<Reply, NoMemory>
-    ensures reply { IfOk result (λ reply. DeliversOne linker.old.state exposure reply linker.new.state) }
+    ensures reply { IfOk result (λ reply.
+        DeliversOne linker.old.state exposure reply linker.new.state) }
     ensures tally { tally.new ≡ tally.old }
 {
     let epoch = exposure.epoch();
@@ -77,7 +80,8 @@ fn named_id(alloc: Global, error: AddError, exposure: &Exposure) -> Result<Word,
 
 /// The id of the detection at a place, which is empty where there is none.
 fn id_at(alloc: Global, detections: &[Detection], place: u32) -> Result<Word, NoMemory>
-    ensures { IfOk result (λ id. id ≡ option_map_or (λ d. d.id) (slice_get detections.now place) []) }
+    ensures { IfOk result (λ id. id ≡
+        option_map_or (λ d. d.id) (slice_get detections.now place) []) }
 {
     match detections.get(place as usize) {
         Some(detection) => detection.id.clone(),

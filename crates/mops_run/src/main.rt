@@ -15,6 +15,8 @@ mod complaints;
 mod delivering;
 mod laws;
 mod lines;
+#[cfg(test)]
+mod night_tests;
 mod output;
 #[cfg(test)]
 mod refusal_tests;

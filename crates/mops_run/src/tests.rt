@@ -1,36 +1,110 @@
-//! Whole runs of the program: scripts, with the replies and the status that are wanted.
+//! Whole runs of the program: rows of lines in and replies out, and the runners that compare them.
 use crate::laws::{replies_are_unique, replies_exist};
 use crate::top::{Status, run};
-use outer_io::{MemSink, MemSource, Sink, Source, SureSink, SureSource};
+use outer_io::{EndlessSource, MemSink, MemSource, Sink, Source, SureSink, SureSource};
 use sky_units::{Tally, Word};
 use std::alloc::Global;
 use std::process::Abort;
 use std::test::Fail;
 
-const WINDOW: &str = "!window 59000 59015\n";
+pub(crate) const WINDOW: &str = "!window 59000 59015\n";
 
-const WINDOW_SET: &str = "window 59000 59015\n";
+pub(crate) const WINDOW_SET: &str = "window 59000 59015\n";
 
-/// Two detections of one object in each of three nights.
-const SIX_LINES: [&str; 6] = [
-    "a1 59000.250000 10.000000 5.000000 20.0 568 obj1\n",
-    "a2 59000.270000 10.002000 5.000000 20.0 568 obj1\n",
-    "b1 59001.250000 10.100000 5.000000 20.0 568 obj1\n",
-    "b2 59001.270000 10.102000 5.000000 20.0 568 obj1\n",
-    "c1 59002.250000 10.200000 5.000000 20.0 568 obj1\n",
-    "c2 59002.270000 10.202000 5.000000 20.0 568 obj1\n",
-];
+// Two detections of one object in each of three nights.
+pub(crate) const A1: &str = "a1 59000.250000 10.000000 5.000000 20.0 568 obj1\n";
 
-const SIX_ACCEPTED: &str = "exposure 59000250000 568 accepted 1\n\
+pub(crate) const A2: &str = "a2 59000.270000 10.002000 5.000000 20.0 568 obj1\n";
+
+pub(crate) const B1: &str = "b1 59001.250000 10.100000 5.000000 20.0 568 obj1\n";
+
+pub(crate) const B2: &str = "b2 59001.270000 10.102000 5.000000 20.0 568 obj1\n";
+
+pub(crate) const C1: &str = "c1 59002.250000 10.200000 5.000000 20.0 568 obj1\n";
+
+pub(crate) const C2: &str = "c2 59002.270000 10.202000 5.000000 20.0 568 obj1\n";
+
+pub(crate) const SIX_ACCEPTED: &str = "exposure 59000250000 568 accepted 1\n\
 exposure 59000270000 568 accepted 1\n\
 exposure 59001250000 568 accepted 1\n\
 exposure 59001270000 568 accepted 1\n\
 exposure 59002250000 568 accepted 1\n\
 exposure 59002270000 568 accepted 1\n";
 
-const ONE_TRACK: &str = "report 59000 59015 1\n\
+pub(crate) const ONE_TRACK: &str = "report 59000 59015 1\n\
 track 1 3 6\n\
+ra 10000000 59001260000 10100 1020100000 1007 0\n\
+dec 5000000 59001260000 10100 0 -3 0\n\
 ids a1 a2 b1 b2 c1 c2\n";
+
+// The same three nights, but the right ascension passes zero.
+const TRACK_ACROSS_ZERO: &str = "report 59000 59015 1\n\
+track 1 3 6\n\
+ra 359990000 59001260000 10100 1020100000 1007 0\n\
+dec 5000000 59001260000 10100 0 -3 0\n\
+ids a1 a2 b1 b2 c1 c2\n";
+
+// The second night lies as far beside a straight line as it may.
+const STRAIGHT_TRACK: &str = "report 59000 59015 1\n\
+track 1 3 6\n\
+ra 10000000 59001260000 10 1013000 1 0\n\
+dec 5000000 59001260000 10100 0 -3 0\n\
+ids a1 a2 b1 b2 c1 c2\n";
+
+// The same with the axes exchanged.
+const STRAIGHT_TRACK_IN_DECLINATION: &str = "report 59000 59015 1\n\
+track 1 3 6\n\
+ra 10000000 59001260000 10100 0 -3 0\n\
+dec 5000000 59001260000 10 1013000 1 0\n\
+ids a1 a2 b1 b2 c1 c2\n";
+
+const NO_TRACK: &str = "report 59000 59015 0\n";
+
+/// A script by its name, how its run ends, and the replies; each text in parts.
+pub(crate) type Row<'a> = (&'a str, &'a [&'a str], Status, &'a [&'a str]);
+
+/// Watches the script of each row, and compares.
+pub(crate) fn expect_rows(rt: &(impl Abort + AllocGlobal), rows: &[Row<'_>]) -> Result<(), Fail> {
+    for (name, script, status, replies) in rows {
+        expect_watch(rt, name, script, *status, replies)?;
+    }
+    Ok(())
+}
+
+/// Watches a script in pieces of several sizes, and compares.
+pub(crate) fn expect_watch(
+    rt: &(impl Abort + AllocGlobal),
+    name: &str,
+    script: &[&str],
+    status: Status,
+    replies: &[&str],
+) -> Result<(), Fail> {
+    for piece in [1_usize, 3, 16, 4096] {
+        expect_in_pieces(rt, name, piece, script, status, replies)?;
+    }
+    Ok(())
+}
+
+/// Watches a script in pieces of so many bytes, and compares. All that is written is flushed.
+fn expect_in_pieces(
+    rt: &(impl Abort + AllocGlobal),
+    name: &str,
+    piece: usize,
+    script: &[&str],
+    status: Status,
+    replies: &[&str],
+) -> Result<(), Fail> {
+    assert!(rt; 0 < piece);
+    let alloc = rt.alloc();
+    let replies = joined(alloc, replies)?;
+    let mut source = MemSource::new(joined(alloc, script)?, piece, Vec::new(alloc));
+    let mut sink = MemSink::new(alloc, replies.len(), piece, Vec::new(alloc))?;
+    let ended = run_on(alloc, &["watch"], &mut source, &mut sink)?;
+    assert_eq!(rt; sink.bytes(), replies.as_slice(), "{name}");
+    assert_eq!(rt; sink.flushed(), replies.len(), "{name}");
+    assert_eq!(rt; ended, status, "{name}");
+    Ok(())
+}
 
 /// The bytes of some texts, one after another.
 fn joined(alloc: Global, parts: &[&str]) -> Result<Vec<u8>, Fail> {
@@ -56,39 +130,6 @@ fn run_on<I: Source, O: Sink>(
     Ok(run(alloc, words.as_slice(), source, sink, &mut tally))
 }
 
-/// Watches a script in pieces of so many bytes, and compares. All that is written is flushed.
-fn expect_in_pieces(
-    rt: &(impl Abort + AllocGlobal),
-    piece: usize,
-    script: &[&str],
-    status: Status,
-    replies: &[&str],
-) -> Result<(), Fail> {
-    assert!(rt; 0 < piece);
-    let alloc = rt.alloc();
-    let replies = joined(alloc, replies)?;
-    let mut source = MemSource::new(joined(alloc, script)?, piece, Vec::new(alloc));
-    let mut sink = MemSink::new(alloc, replies.len(), piece, Vec::new(alloc))?;
-    let ended = run_on(alloc, &["watch"], &mut source, &mut sink)?;
-    assert_eq!(rt; sink.bytes(), replies.as_slice());
-    assert_eq!(rt; sink.flushed(), replies.len());
-    assert_eq!(rt; ended, status);
-    Ok(())
-}
-
-/// Watches a script in pieces of several sizes, and compares.
-pub(crate) fn expect_watch(
-    rt: &(impl Abort + AllocGlobal),
-    script: &[&str],
-    status: Status,
-    replies: &[&str],
-) -> Result<(), Fail> {
-    for piece in [1_usize, 3, 16, 4096] {
-        expect_in_pieces(rt, piece, script, status, replies)?;
-    }
-    Ok(())
-}
-
 /// The lines of two detections in each of three nights, at these six positions: each a right
 /// ascension and a declination.
 fn six_lines_at(alloc: Global, positions: [&str; 6]) -> Result<String, Fail> {
@@ -108,96 +149,299 @@ fn six_lines_at(alloc: Global, positions: [&str; 6]) -> Result<String, Fail> {
     Ok(text)
 }
 
-#[test]
-fn empty_input(rt: HostRuntime) -> Result<(), Fail> {
-    expect_watch(&rt, &[], Status::Done, &[])?;
-    let nothing_said = ["\n \t\r\n", "# a \u{1} comment\n", "#"];
-    expect_watch(&rt, &nothing_said, Status::Done, &[])
-}
-
-#[test]
-fn three_nights(rt: HostRuntime) -> Result<(), Fail> {
-    let [a1, a2, b1, b2, c1, c2] = SIX_LINES;
-    expect_watch(
-        &rt,
-        &[WINDOW, a1, a2, b1, b2, c1, c2, "!report\n"],
-        Status::Done,
-        &[WINDOW_SET, SIX_ACCEPTED, ONE_TRACK],
-    )
-}
-
-#[test]
-fn across_ra_zero(rt: HostRuntime) -> Result<(), Fail> {
-    let positions = [
-        "359.990000 5",
-        "359.992000 5",
-        "0.090000 5",
-        "0.092000 5",
-        "0.190000 5",
-        "0.192000 5",
-    ];
-    let lines = six_lines_at(rt.alloc(), positions)?;
-    expect_watch(
-        &rt,
-        &[WINDOW, lines.as_str(), "!report\n"],
-        Status::Done,
-        &[WINDOW_SET, SIX_ACCEPTED, ONE_TRACK],
-    )
-}
-
-#[test]
-fn two_nights_are_no_track(rt: HostRuntime) -> Result<(), Fail> {
-    let [a1, a2, b1, b2, ..] = SIX_LINES;
-    expect_watch(
-        &rt,
-        &[WINDOW, a1, a2, b1, b2, "!report\n"],
-        Status::Done,
-        &[
-            WINDOW_SET,
-            "exposure 59000250000 568 accepted 1\n",
-            "exposure 59000270000 568 accepted 1\n",
-            "exposure 59001250000 568 accepted 1\n",
-            "exposure 59001270000 568 accepted 1\n",
-            "report 59000 59015 0\n",
-        ],
-    )
-}
-
-#[test]
-fn straight_lines_at_the_tolerance(rt: HostRuntime) -> Result<(), Fail> {
-    let reports = [
-        ("10.100600 5", "10.102600 5", ONE_TRACK),
-        ("10.100601 5", "10.102601 5", "report 59000 59015 0\n"),
-    ];
-    for (b1, b2, report) in reports {
-        let positions = ["10 5", "10.002 5", b1, b2, "10.2 5", "10.202 5"];
-        let lines = six_lines_at(rt.alloc(), positions)?;
-        expect_watch(
-            &rt,
-            &["!set acc_ra 0\n", WINDOW, lines.as_str(), "!report\n"],
-            Status::Done,
-            &["set acc_ra 0\n", WINDOW_SET, SIX_ACCEPTED, report],
-        )?;
+/// Watches six detections at these positions under some settings, each a name and a value, and
+/// compares the report.
+pub(crate) fn expect_report(
+    rt: &(impl Abort + AllocGlobal),
+    name: &str,
+    settings: &[&str],
+    positions: [&str; 6],
+    report: &str,
+) -> Result<(), Fail> {
+    let alloc = rt.alloc();
+    let mut set = String::new(alloc);
+    let mut said = String::new(alloc);
+    for setting in settings {
+        set.push_str(format!(in alloc; "!set {setting}\n")?.as_str())?;
+        said.push_str(format!(in alloc; "set {setting}\n")?.as_str())?;
     }
-    Ok(())
+    let lines = six_lines_at(alloc, positions)?;
+    expect_watch(
+        rt,
+        name,
+        &[set.as_str(), WINDOW, lines.as_str(), "!report\n"],
+        Status::Done,
+        &[said.as_str(), WINDOW_SET, SIX_ACCEPTED, report],
+    )
 }
 
 #[test]
-fn declination_decides_a_track(rt: HostRuntime) -> Result<(), Fail> {
-    // Straight lines must pass within 300 of three points whose middle lies this far beside them.
-    let reports = [
-        ("10 5.100600", "10 5.102600", ONE_TRACK),
-        ("10 5.100601", "10 5.102601", "report 59000 59015 0\n"),
-    ];
-    for (b1, b2, report) in reports {
-        let positions = ["10 5", "10 5.002", b1, b2, "10 5.2", "10 5.202"];
-        let lines = six_lines_at(rt.alloc(), positions)?;
-        expect_watch(
-            &rt,
-            &["!set acc_dec 0\n", WINDOW, lines.as_str(), "!report\n"],
+fn reports_of_six_detections(rt: HostRuntime) -> Result<(), Fail> {
+    let rows: [Row<'_>; 5] = [
+        ("empty_input", &[], Status::Done, &[]),
+        (
+            "three_nights",
+            &[WINDOW, A1, A2, B1, B2, C1, C2, "!report\n"],
             Status::Done,
-            &["set acc_dec 0\n", WINDOW_SET, SIX_ACCEPTED, report],
-        )?;
+            &[WINDOW_SET, SIX_ACCEPTED, ONE_TRACK],
+        ),
+        (
+            "two_nights_are_no_track",
+            &[WINDOW, A1, A2, B1, B2, "!report\n"],
+            Status::Done,
+            &[
+                WINDOW_SET,
+                "exposure 59000250000 568 accepted 1\n\
+exposure 59000270000 568 accepted 1\n\
+exposure 59001250000 568 accepted 1\n\
+exposure 59001270000 568 accepted 1\n",
+                NO_TRACK,
+            ],
+        ),
+        (
+            "reverse_order",
+            &[
+                WINDOW,
+                C2,
+                "!stats\n",
+                C1,
+                "!stats\n",
+                B2,
+                "!stats\n",
+                B1,
+                "!stats\n",
+                A2,
+                "!stats\n",
+                A1,
+                "!stats\n",
+                "!report\n",
+            ],
+            Status::Done,
+            &[
+                WINDOW_SET,
+                "exposure 59002270000 568 accepted 1\nstats 1 1 0 0\n",
+                "exposure 59002250000 568 accepted 1\nstats 2 2 1 0\n",
+                "exposure 59001270000 568 accepted 1\nstats 3 3 1 0\n",
+                "exposure 59001250000 568 accepted 1\nstats 4 4 2 0\n",
+                "exposure 59000270000 568 accepted 1\nstats 5 5 2 0\n",
+                "exposure 59000250000 568 accepted 1\nstats 6 6 3 1\n",
+                ONE_TRACK,
+            ],
+        ),
+        (
+            "window_move_keeps_the_rest",
+            &[
+                WINDOW,
+                A1,
+                A2,
+                B1,
+                B2,
+                C1,
+                C2,
+                "d1 59003.250000 10.300000 5.000000 20.0 568 obj1\n",
+                "d2 59003.270000 10.302000 5.000000 20.0 568 obj1\n",
+                "!report\n!window 59001 59016\n!report\n",
+            ],
+            Status::Done,
+            &[
+                WINDOW_SET,
+                SIX_ACCEPTED,
+                "exposure 59003250000 568 accepted 1\n",
+                "exposure 59003270000 568 accepted 1\n",
+                "report 59000 59015 1\n\
+track 1 4 8\n\
+ra 10000000 59001760000 15100 2280100000 1507 0\n\
+dec 5000000 59001760000 15100 0 -3 0\n\
+ids a1 a2 b1 b2 c1 c2 d1 d2\n",
+                "window 59001 59016\n",
+                "report 59001 59016 1\n\
+track 1 3 6\n\
+ra 10100000 59002260000 10100 1020100000 1007 0\n\
+dec 5000000 59002260000 10100 0 -3 0\n\
+ids b1 b2 c1 c2 d1 d2\n",
+            ],
+        ),
+    ];
+    expect_rows(&rt, &rows)
+}
+
+#[test]
+fn deliveries(rt: HostRuntime) -> Result<(), Fail> {
+    let rows: [Row<'_>; 6] = [
+        (
+            "a refused line has its reply at once; exposures come in order of epoch and site",
+            &[
+                "!window 59000 59000\n\
+b 59000.25 10 5 20 F51 o\n\
+c 59000.27 10 5 20 568 o\n\
+\n \t \n# a comment\n\
+x 59000.25 10 5 20\n\
+\u{80}\n\
+a 59000.25 11 5 20 F51 o\n\
+d 59000.25 12 5 20 568 o\n\
+!stats\n",
+            ],
+            Status::DoneWithRefusals,
+            &[
+                "window 59000 59000\n\
+line 7 refused fields\n\
+line 8 refused byte\n\
+exposure 59000250000 568 accepted 1\n\
+exposure 59000250000 F51 accepted 2\n\
+exposure 59000270000 568 accepted 1\n\
+stats 3 4 1 0\n",
+            ],
+        ),
+        (
+            "a malformed command ends a delivery too, so the second b comes too late",
+            &[
+                "!window 59000 59000\n\
+a 59000.25 10 5 20 568 o\n\
+!foo\n\
+b 59000.25 11 5 20 568 o\n\
+!report now\n",
+            ],
+            Status::DoneWithRefusals,
+            &[
+                "window 59000 59000\n\
+exposure 59000250000 568 accepted 1\n\
+line 3 refused command\n\
+exposure 59000250000 568 refused held\n\
+line 5 refused words\n",
+            ],
+        ),
+        (
+            "what waits at the end is delivered",
+            &[WINDOW, C2, B1, A2, A1, C1, B2],
+            Status::Done,
+            &[WINDOW_SET, SIX_ACCEPTED],
+        ),
+        (
+            "and is refused without a window",
+            &["a 59001.25 10 5 20 568 o\n# the end\n"],
+            Status::DoneWithRefusals,
+            &["exposure 59001250000 568 refused nowindow\n"],
+        ),
+        (
+            "a last line that no line feed ends",
+            &[WINDOW, "a1 59000.25 10 5 20 568 obj1"],
+            Status::Done,
+            &[WINDOW_SET, "exposure 59000250000 568 accepted 1\n"],
+        ),
+        (
+            "nights_begin_before_zero_hours",
+            &[
+                "!set night_shift 250000\n\
+!window 59001 59001\n\
+a 59000.749999 10 5 20 568 o\n\
+b 59000.80 10 5 20 568 o\n\
+c 59000.82 10.002 5 20 568 o\n\
+d 59000.99 10.019 6 20 568 o\n\
+e 59001.02 10.022 6 20 568 o\n\
+f 59001.75 10.095 6 20 568 o\n",
+                "!tracklets 59001\n!tracklets 59000\n",
+            ],
+            Status::DoneWithRefusals,
+            &[
+                "set night_shift 250000\n\
+window 59001 59001\n\
+exposure 59000749999 568 refused old\n\
+exposure 59000800000 568 accepted 1\n\
+exposure 59000820000 568 accepted 1\n\
+exposure 59000990000 568 accepted 1\n\
+exposure 59001020000 568 accepted 1\n\
+exposure 59001750000 568 refused new\n",
+                "tracklets 59001 2\ntracklet b c\ntracklet d e\n",
+                "tracklets 59000 0\n",
+            ],
+        ),
+    ];
+    expect_rows(&rt, &rows)
+}
+
+#[test]
+fn ends_of_lines(rt: HostRuntime) -> Result<(), Fail> {
+    let rows: [Row<'_>; 6] = [
+        (
+            "nothing said",
+            &["\n \t\r\n# a \u{1} comment\n#"],
+            Status::Done,
+            &[],
+        ),
+        (
+            "no line feed",
+            &["!window 3 5"],
+            Status::Done,
+            &["window 3 5\n"],
+        ),
+        ("no window", &["!report"], Status::Done, &["report - - 0\n"]),
+        (
+            "a carriage return before a line feed is dropped",
+            &["!window -1 14\r\n"],
+            Status::Done,
+            &["window -1 14\n"],
+        ),
+        (
+            "and only there",
+            &["!report\r"],
+            Status::DoneWithRefusals,
+            &["line 1 refused byte\n"],
+        ),
+        (
+            "alone",
+            &["\r"],
+            Status::DoneWithRefusals,
+            &["line 1 refused byte\n"],
+        ),
+    ];
+    expect_rows(&rt, &rows)
+}
+
+#[test]
+fn tracks_by_position(rt: HostRuntime) -> Result<(), Fail> {
+    let across = [
+        "359.99 5",
+        "359.992 5",
+        "0.09 5",
+        "0.092 5",
+        "0.19 5",
+        "0.192 5",
+    ];
+    expect_report(&rt, "across_ra_zero", &[], across, TRACK_ACROSS_ZERO)?;
+    // Straight lines must pass within 300 of three points whose middle lies this far beside them.
+    for (name, b1, b2, report) in [
+        (
+            "straight_lines_at_the_tolerance",
+            "10.1006 5",
+            "10.1026 5",
+            STRAIGHT_TRACK,
+        ),
+        (
+            "straight lines beside it",
+            "10.100601 5",
+            "10.102601 5",
+            NO_TRACK,
+        ),
+    ] {
+        let positions = ["10 5", "10.002 5", b1, b2, "10.2 5", "10.202 5"];
+        expect_report(&rt, name, &["acc_ra 0"], positions, report)?;
+    }
+    for (name, b1, b2, report) in [
+        (
+            "declination at the tolerance",
+            "10 5.1006",
+            "10 5.1026",
+            STRAIGHT_TRACK_IN_DECLINATION,
+        ),
+        (
+            "declination beside it",
+            "10 5.100601",
+            "10 5.102601",
+            NO_TRACK,
+        ),
+    ] {
+        let positions = ["10 5", "10 5.002", b1, b2, "10 5.2", "10 5.202"];
+        expect_report(&rt, name, &["acc_dec 0"], positions, report)?;
     }
     Ok(())
 }
@@ -205,68 +449,29 @@ fn declination_decides_a_track(rt: HostRuntime) -> Result<(), Fail> {
 #[test]
 fn declination_decides_a_pair(rt: HostRuntime) -> Result<(), Fail> {
     // At half a degree a day, a fiftieth of a day lets through a hundredth of a degree.
-    let replies = [
+    for (declination, tracklets) in [
         ("5.010000", "tracklets 59000 1\ntracklet a b\n"),
         ("5.010001", "tracklets 59000 0\n"),
         ("4.990000", "tracklets 59000 1\ntracklet a b\n"),
         ("4.989999", "tracklets 59000 0\n"),
-    ];
-    for (declination, tracklets) in replies {
-        let later = format!(in rt.alloc(); "b 59000.27 10 {declination} 20 568 o\n")?;
+    ] {
         expect_watch(
             &rt,
+            declination,
             &[
-                WINDOW,
-                "a 59000.25 10 5 20 568 o\n",
-                later.as_str(),
-                "!tracklets 59000\n",
+                "!window 59000 59000\na 59000.25 10 5 20 568 o\nb 59000.27 10 ",
+                declination,
+                " 20 568 o\n!tracklets 59000\n",
             ],
             Status::Done,
             &[
-                WINDOW_SET,
-                "exposure 59000250000 568 accepted 1\n",
-                "exposure 59000270000 568 accepted 1\n",
+                "window 59000 59000\n",
+                "exposure 59000250000 568 accepted 1\nexposure 59000270000 568 accepted 1\n",
                 tracklets,
             ],
         )?;
     }
     Ok(())
-}
-
-#[test]
-fn reverse_order(rt: HostRuntime) -> Result<(), Fail> {
-    let [a1, a2, b1, b2, c1, c2] = SIX_LINES;
-    let stats = "!stats\n";
-    expect_watch(
-        &rt,
-        &[
-            WINDOW,
-            c2,
-            stats,
-            c1,
-            stats,
-            b2,
-            stats,
-            b1,
-            stats,
-            a2,
-            stats,
-            a1,
-            stats,
-            "!report\n",
-        ],
-        Status::Done,
-        &[
-            WINDOW_SET,
-            "exposure 59002270000 568 accepted 1\nstats 1 1 0 0\n",
-            "exposure 59002250000 568 accepted 1\nstats 2 2 1 0\n",
-            "exposure 59001270000 568 accepted 1\nstats 3 3 1 0\n",
-            "exposure 59001250000 568 accepted 1\nstats 4 4 2 0\n",
-            "exposure 59000270000 568 accepted 1\nstats 5 5 2 0\n",
-            "exposure 59000250000 568 accepted 1\nstats 6 6 3 1\n",
-            ONE_TRACK,
-        ],
-    )
 }
 
 /// Watches these lines under a window, with `between` behind each of them, and then a report. The
@@ -293,16 +498,14 @@ fn expect_one_track(
 
 #[test]
 fn every_order_gives_the_same_report(rt: HostRuntime) -> Result<(), Fail> {
-    let [a1, a2, b1, b2, c1, c2] = SIX_LINES;
-    let orders = [
-        [a1, a2, b1, b2, c1, c2],
-        [c2, c1, b2, b1, a2, a1],
-        [b1, a1, c1, a2, c2, b2],
-        [a2, c2, a1, b1, b2, c1],
-        [c1, b1, a1, c2, a2, b2],
-        [b2, c1, a2, b1, a1, c2],
-    ];
-    for order in orders {
+    for order in [
+        [A1, A2, B1, B2, C1, C2],
+        [C2, C1, B2, B1, A2, A1],
+        [B1, A1, C1, A2, C2, B2],
+        [A2, C2, A1, B1, B2, C1],
+        [C1, B1, A1, C2, A2, B2],
+        [B2, C1, A2, B1, A1, C2],
+    ] {
         // One delivery; and one of each exposure.
         expect_one_track(&rt, order, "")?;
         expect_one_track(&rt, order, "!stats\n")?;
@@ -310,44 +513,18 @@ fn every_order_gives_the_same_report(rt: HostRuntime) -> Result<(), Fail> {
     Ok(())
 }
 
-#[test]
-fn window_move_keeps_the_rest(rt: HostRuntime) -> Result<(), Fail> {
-    let [a1, a2, b1, b2, c1, c2] = SIX_LINES;
-    expect_watch(
-        &rt,
-        &[
-            WINDOW,
-            a1,
-            a2,
-            b1,
-            b2,
-            c1,
-            c2,
-            "d1 59003.250000 10.300000 5.000000 20.0 568 obj1\n",
-            "d2 59003.270000 10.302000 5.000000 20.0 568 obj1\n",
-            "!report\n",
-            "!window 59001 59016\n",
-            "!report\n",
-        ],
-        Status::Done,
-        &[
-            WINDOW_SET,
-            SIX_ACCEPTED,
-            "exposure 59003250000 568 accepted 1\n",
-            "exposure 59003270000 568 accepted 1\n",
-            "report 59000 59015 1\ntrack 1 4 8\nids a1 a2 b1 b2 c1 c2 d1 d2\n",
-            "window 59001 59016\n",
-            "report 59001 59016 1\ntrack 1 3 6\nids b1 b2 c1 c2 d1 d2\n",
-        ],
-    )
-}
-
 /// Six objects, a degree apart, with two detections in each of three nights; and their report.
 fn six_objects(alloc: Global) -> Result<(Vec<u8>, Vec<u8>), Fail> {
     let mut lines = Vec::from_slice(alloc, WINDOW.as_bytes())?;
     let mut report = Vec::from_slice(alloc, b"report 59000 59015 6\n")?;
     for object in 0..6_u32 {
-        let head = format!(in alloc; "track {} 3 6\nids", object + 1)?;
+        let head = format!(in alloc;
+            "track {} 3 6\n\
+ra 1{object}000000 59001260000 10100 1020100000 1007 0\n\
+dec 5000000 59001260000 10100 0 -3 0\n\
+ids",
+            object + 1
+        )?;
         report.extend_from_slice(head.as_bytes())?;
         for night in 0..3_u32 {
             for (exposure, epoch, place) in [(0_u32, "25", "0"), (1, "27", "2")] {
@@ -378,164 +555,6 @@ fn twelve_detections_in_each_of_three_nights(rt: HostRuntime) -> Result<(), Fail
 }
 
 #[test]
-fn pairs_of_a_night(rt: HostRuntime) -> Result<(), Fail> {
-    let detections = "p1 59000.25 10.000000 5 20 568 o\n\
-p2 59000.26 10.001000 5 20 568 o\n\
-p3 59000.27 10.002500 5 20 568 o\n\
-p4 59000.28 10.003000 5 20 568 o\n";
-    expect_watch(
-        &rt,
-        &[
-            "!set stages 1\n",
-            "!window 59000 59000\n",
-            detections,
-            "!tracklets 59000\n",
-            "!tracklets 59001\n",
-        ],
-        Status::Done,
-        &[
-            "set stages 1\n",
-            "window 59000 59000\n",
-            "exposure 59000250000 568 accepted 1\n",
-            "exposure 59000260000 568 accepted 1\n",
-            "exposure 59000270000 568 accepted 1\n",
-            "exposure 59000280000 568 accepted 1\n",
-            "tracklets 59000 6\n",
-            "tracklet p1 p2\ntracklet p1 p3\ntracklet p1 p4\n",
-            "tracklet p2 p3\ntracklet p2 p4\ntracklet p3 p4\n",
-            "tracklets 59001 0\n",
-        ],
-    )
-}
-
-#[test]
-fn nights_begin_before_zero_hours(rt: HostRuntime) -> Result<(), Fail> {
-    expect_watch(
-        &rt,
-        &[
-            "!set night_shift 250000\n",
-            "!window 59001 59001\n",
-            "a 59000.749999 10 5 20 568 o\n",
-            "b 59000.80 10 5 20 568 o\n",
-            "c 59000.82 10.002 5 20 568 o\n",
-            "d 59000.99 10.019 5 20 568 o\n",
-            "e 59001.02 10.022 5 20 568 o\n",
-            "f 59001.75 10.095 5 20 568 o\n",
-            "!tracklets 59001\n",
-            "!tracklets 59000\n",
-        ],
-        Status::DoneWithRefusals,
-        &[
-            "set night_shift 250000\n",
-            "window 59001 59001\n",
-            "exposure 59000749999 568 refused old\n",
-            "exposure 59000800000 568 accepted 1\n",
-            "exposure 59000820000 568 accepted 1\n",
-            "exposure 59000990000 568 accepted 1\n",
-            "exposure 59001020000 568 accepted 1\n",
-            "exposure 59001750000 568 refused new\n",
-            "tracklets 59001 2\ntracklet b c\ntracklet d e\n",
-            "tracklets 59000 0\n",
-        ],
-    )
-}
-
-#[test]
-fn a_delivery_ends_only_at_a_command(rt: HostRuntime) -> Result<(), Fail> {
-    // A refused line has its reply at once. The exposures come in order of epoch and site.
-    expect_watch(
-        &rt,
-        &[
-            "!window 59000 59000\n",
-            "b 59000.25 10 5 20 F51 o\n",
-            "c 59000.27 10 5 20 568 o\n",
-            "\n",
-            " \t \n",
-            "# a comment\n",
-            "x 59000.25 10 5 20\n",
-            "\u{80}\n",
-            "a 59000.25 11 5 20 F51 o\n",
-            "d 59000.25 12 5 20 568 o\n",
-            "!stats\n",
-        ],
-        Status::DoneWithRefusals,
-        &[
-            "window 59000 59000\n",
-            "line 7 refused fields\n",
-            "line 8 refused byte\n",
-            "exposure 59000250000 568 accepted 1\n",
-            "exposure 59000250000 F51 accepted 2\n",
-            "exposure 59000270000 568 accepted 1\n",
-            "stats 3 4 1 0\n",
-        ],
-    )?;
-    // A malformed command ends a delivery too: so the second `b` comes too late for its exposure.
-    expect_watch(
-        &rt,
-        &[
-            "!window 59000 59000\n",
-            "a 59000.25 10 5 20 568 o\n",
-            "!foo\n",
-            "b 59000.25 11 5 20 568 o\n",
-            "!report now\n",
-        ],
-        Status::DoneWithRefusals,
-        &[
-            "window 59000 59000\n",
-            "exposure 59000250000 568 accepted 1\n",
-            "line 3 refused command\n",
-            "exposure 59000250000 568 refused held\n",
-            "line 5 refused words\n",
-        ],
-    )
-}
-
-#[test]
-fn what_waits_at_the_end_is_delivered(rt: HostRuntime) -> Result<(), Fail> {
-    let [a1, a2, b1, b2, c1, c2] = SIX_LINES;
-    expect_watch(
-        &rt,
-        &[WINDOW, c2, b1, a2, a1, c1, b2],
-        Status::Done,
-        &[WINDOW_SET, SIX_ACCEPTED],
-    )?;
-    expect_watch(
-        &rt,
-        &["a 59001.25 10 5 20 568 o\n", "# the end\n"],
-        Status::DoneWithRefusals,
-        &["exposure 59001250000 568 refused nowindow\n"],
-    )
-}
-
-#[test]
-fn unended_last_lines(rt: HostRuntime) -> Result<(), Fail> {
-    expect_watch(&rt, &["!window 3 5"], Status::Done, &["window 3 5\n"])?;
-    expect_watch(&rt, &["!report"], Status::Done, &["report - - 0\n"])?;
-    expect_watch(
-        &rt,
-        &[WINDOW, "a1 59000.25 10 5 20 568 obj1"],
-        Status::Done,
-        &[WINDOW_SET, "exposure 59000250000 568 accepted 1\n"],
-    )?;
-    // A carriage return is dropped before a line feed, and only there.
-    expect_watch(
-        &rt,
-        &["!window -1 14\r\n"],
-        Status::Done,
-        &["window -1 14\n"],
-    )?;
-    for line in ["!report\r", "\r"] {
-        expect_watch(
-            &rt,
-            &[line],
-            Status::DoneWithRefusals,
-            &["line 1 refused byte\n"],
-        )?;
-    }
-    Ok(())
-}
-
-#[test]
 fn long_lines(rt: HostRuntime) -> Result<(), Fail> {
     let alloc = rt.alloc();
     // A comment may have any length; another line, at most 1,024 bytes.
@@ -561,6 +580,7 @@ fn long_lines(rt: HostRuntime) -> Result<(), Fail> {
     ];
     expect_in_pieces(
         &rt,
+        "long_lines",
         4096,
         &script,
         Status::DoneWithRefusals,
@@ -592,6 +612,7 @@ fn limit_of_a_night(rt: HostRuntime) -> Result<(), Fail> {
     }
     expect_in_pieces(
         &rt,
+        "limit_of_a_night",
         4096,
         &[WINDOW, lines.as_str()],
         Status::DoneWithRefusals,
@@ -634,8 +655,7 @@ fn limits_of_the_log(rt: HostRuntime) -> Result<(), Fail> {
 #[test]
 fn faults_in_the_middle(rt: HostRuntime) -> Result<(), Fail> {
     let alloc = rt.alloc();
-    let [a1, a2, b1, b2, c1, c2] = SIX_LINES;
-    let script = [WINDOW, a1, a2, b1, b2, c1, c2, "!report\n"];
+    let script = [WINDOW, A1, A2, B1, B2, C1, C2, "!report\n"];
     let input = joined(alloc, &script)?;
     let whole = joined(alloc, &[WINDOW_SET, SIX_ACCEPTED, ONE_TRACK])?;
     for failing in 0..30_u64 {
@@ -660,8 +680,7 @@ fn faults_in_the_middle(rt: HostRuntime) -> Result<(), Fail> {
 #[test]
 fn writes_that_fail_and_room_that_ends(rt: HostRuntime) -> Result<(), Fail> {
     let alloc = rt.alloc();
-    let [a1, a2, b1, b2, c1, c2] = SIX_LINES;
-    let script = [WINDOW, a1, a2, b1, b2, c1, c2, "!report\n"];
+    let script = [WINDOW, A1, A2, B1, B2, C1, C2, "!report\n"];
     let whole = joined(alloc, &[WINDOW_SET, SIX_ACCEPTED, ONE_TRACK])?;
     // The first reply is written in three calls, and flushed in a fourth.
     for (failing, written) in [(0, 0), (1, 8), (2, 16), (3, 19), (4, 19), (5, 27)] {
@@ -680,6 +699,17 @@ fn writes_that_fail_and_room_that_ends(rt: HostRuntime) -> Result<(), Fail> {
         assert_eq!(rt; sink.bytes().len(), room);
         assert!(rt; whole.as_slice().starts_with(sink.bytes()), "{room}");
     }
+    Ok(())
+}
+
+#[test]
+fn endless_input(rt: HostRuntime) -> Result<(), Fail> {
+    let alloc = rt.alloc();
+    let mut source = EndlessSource::new(b'#');
+    let mut sink = MemSink::new(alloc, 16, 16, Vec::new(alloc))?;
+    let status = run_on(alloc, &["watch"], &mut source, &mut sink)?;
+    assert_eq!(rt; status, Status::InputTooLong);
+    assert!(rt; sink.bytes().is_empty());
     Ok(())
 }
 

@@ -1,7 +1,7 @@
 //! The top call, and how it ends.
 ghost use Rattle.std.specs.Prelude.{◌≡◌, ◌≢◌, ◌↔◌, ◌⊎◌, IfSome, IsTrue};
 ghost use Rattle.outer_io.specs.Receipt.{IsFlushed};
-ghost use Rattle.mops_run.specs.Promise.{AreWatch, refused_by, WritesAll, WritesFront, IsSpent, EndsByReading, SourceFaults, SinkFaults, Takes};
+ghost use Rattle.mops_run.specs.Promise.{AreWatch, refused_by, WritesAll, WritesFront, IsSpent, EndsByReading, SourceFaults, SinkFaults, Takes, IsDone, IsShort, NoneFailed};
 
 use crate::watching::watch;
 use outer_io::{Sink, Source};
@@ -28,6 +28,8 @@ pub enum Status {
 }
 
 /// Runs the program on its words: the one word `watch` answers each line of the source on the sink.
+/// A report lists the maximal tracks of the held detections, each with the reported quadratic on
+/// each axis (the definitions `IsReport` and `IsReported`).
 pub fn run<I: Source, O: Sink>(
     alloc: Global,
     words: &[Word],
@@ -44,17 +46,28 @@ pub fn run<I: Source, O: Sink>(
     // replies that the definitions give, and every run has written a front of them.
     ensures whole { IfSome (refused_by result) (λ refused. IfSome (I.supply source.old).left
         (λ input. WritesAll input (O.receipt sink.old) (O.receipt sink.new) refused)) }
-    ensures front { IfSome (I.supply source.old).left (λ input. WritesFront input (O.receipt sink.old) (O.receipt sink.new)) }
+    ensures front { IfSome (I.supply source.old).left
+        (λ input. WritesFront input (O.receipt sink.old) (O.receipt sink.new)) }
 
     // A run that is done has read all there is; all that was written is flushed, unless a write
     // failed or memory was wanting.
     ensures spent { IfSome (refused_by result) (λ refused. IsSpent (I.supply source.new)) }
-    ensures flushed { EndsByReading result → (O.receipt sink.new ≡ O.receipt sink.old) ⊎ IsFlushed (O.receipt sink.new) }
+    ensures flushed { EndsByReading result →
+        (O.receipt sink.new ≡ O.receipt sink.old) ⊎ IsFlushed (O.receipt sink.new) }
 
     // The cause of each fault.
-    ensures source_faults { SourceFaults result (I.supply source.old).faults (I.supply source.new).faults }
-    ensures sink_faults { SinkFaults result (O.receipt sink.old).faults (O.receipt sink.new).faults }
-    ensures taken { result ≢ Status.Usage → Takes result (I.supply source.old) (I.supply source.new) }
+    ensures source_faults { SourceFaults result (I.supply source.old).faults
+        (I.supply source.new).faults }
+    ensures sink_faults { SinkFaults result (O.receipt sink.old).faults
+        (O.receipt sink.new).faults }
+    ensures taken { result ≢ Status.Usage →
+        Takes result (I.supply source.old) (I.supply source.new) }
+
+    // An input that is told and short is answered whole, unless a call failed or memory was wanting.
+    ensures completes { AreWatch words.now → IsShort (I.supply source.old).left
+        → NoneFailed (I.supply source.old).faults (I.supply source.new).faults
+        → NoneFailed (O.receipt sink.old).faults (O.receipt sink.new).faults
+        → result ≢ Status.NoMemory → IsDone result }
 {
     if !is_watch(words) {
         return Status::Usage;

@@ -60,7 +60,8 @@ pub fn watch<I: Source, O: Sink>(
     sink: &mut O,
     tally: &mut Tally,
 ) -> Status
-    ensures watches { Watches result (I.supply source.old) (I.supply source.new) (O.receipt sink.old) (O.receipt sink.new) }
+    ensures watches { Watches result (I.supply source.old) (I.supply source.new)
+        (O.receipt sink.old) (O.receipt sink.new) }
     ensures tally { tally.new ≡ tally.old }
 {
     let Ok(mut reader) = LineReader::new(alloc) else {
@@ -124,9 +125,13 @@ fn answer<O: Sink>(
     tally: &mut Tally,
 ) -> Result<bool, Stop>
     requires few { length waiting.old.items < 2 ^ 32 }
-    ensures ok { IfOk result (λ refused. Answered number (state_of linker.old.state waiting.old.items) text.now (O.receipt sink.old) (O.receipt sink.new) refused (state_of linker.new.state waiting.new.items)) }
+    ensures ok { IfOk result (λ refused.
+        Answered number (state_of linker.old.state waiting.old.items) text.now (O.receipt sink.old)
+        (O.receipt sink.new) refused (state_of linker.new.state waiting.new.items)) }
     ensures memory { result ≡ Err Stop.NoMemory → sink.new ≡ sink.old }
-    ensures fault { result ≡ Err Stop.WriteFault → FailsToAnswer number (state_of linker.old.state waiting.old.items) text.now (O.receipt sink.old) (O.receipt sink.new) }
+    ensures fault { result ≡ Err Stop.WriteFault →
+        FailsToAnswer number (state_of linker.old.state waiting.old.items) text.now
+        (O.receipt sink.old) (O.receipt sink.new) }
     ensures tally { tally.new ≡ tally.old }
 {
     let said = said_by(alloc, text)?;
@@ -143,9 +148,13 @@ fn finish<O: Sink>(
     tally: &mut Tally,
 ) -> Result<bool, Stop>
     requires few { length waiting.items < 2 ^ 32 }
-    ensures ok { IfOk result (λ refused. Finished (state_of linker.old.state waiting.items) (O.receipt sink.old) (O.receipt sink.new) refused) }
+    ensures ok { IfOk result (λ refused.
+        Finished (state_of linker.old.state waiting.items) (O.receipt sink.old)
+        (O.receipt sink.new) refused) }
     ensures memory { result ≡ Err Stop.NoMemory → sink.new ≡ sink.old }
-    ensures fault { result ≡ Err Stop.WriteFault → FailsToFinish (state_of linker.old.state waiting.items) (O.receipt sink.old) (O.receipt sink.new) }
+    ensures fault { result ≡ Err Stop.WriteFault →
+        FailsToFinish (state_of linker.old.state waiting.items) (O.receipt sink.old)
+        (O.receipt sink.new) }
     ensures tally { tally.new ≡ tally.old }
 {
     let replies = deliver(alloc, linker, waiting, tally)?;
@@ -155,9 +164,11 @@ fn finish<O: Sink>(
 /// Writes the texts of some replies and flushes them, and says whether one is a refusal. Without a
 /// reply no call is made on the sink.
 fn say<O: Sink>(alloc: Global, sink: &mut O, replies: &[Reply]) -> Result<bool, Stop>
-    ensures ok { IfOk result (λ refused. Says replies.now (O.receipt sink.old) (O.receipt sink.new) refused) }
+    ensures ok { IfOk result (λ refused.
+        Says replies.now (O.receipt sink.old) (O.receipt sink.new) refused) }
     ensures memory { result ≡ Err Stop.NoMemory → sink.new ≡ sink.old }
-    ensures fault { result ≡ Err Stop.WriteFault → FailsIn (O.receipt sink.old) (O.receipt sink.new) (text_of_all replies.now) }
+    ensures fault { result ≡ Err Stop.WriteFault →
+        FailsIn (O.receipt sink.old) (O.receipt sink.new) (text_of_all replies.now) }
 {
     if replies.is_empty() {
         return Ok(false);
@@ -197,7 +208,9 @@ fn reply(
 ) -> Result<Vec<Reply>, NoMemory>
     requires few { length waiting.old.items < 2 ^ 32 }
     requires near { IsNearLine said }
-    ensures replies { IfOk result (λ replies. Replies number (state_of linker.old.state waiting.old.items) said replies.items (state_of linker.new.state waiting.new.items)) }
+    ensures replies { IfOk result (λ replies.
+        Replies number (state_of linker.old.state waiting.old.items) said replies.items
+        (state_of linker.new.state waiting.new.items)) }
     ensures tally { tally.new ≡ tally.old }
 {
     match said {
@@ -223,7 +236,8 @@ fn wait(
     waiting: &mut Vec<Detection>,
     detection: Detection,
 ) -> Result<Vec<Reply>, NoMemory>
-    ensures { IfOk result (λ replies. (replies.items ≡ []) × (waiting.new.items ≡ waiting.old.items ++ detection ∷ [])) }
+    ensures { IfOk result (λ replies. (replies.items ≡ []) ×
+        (waiting.new.items ≡ waiting.old.items ++ detection ∷ [])) }
 {
     waiting.push(detection)?;
     Ok(Vec::new(alloc))
@@ -246,7 +260,8 @@ fn deliver_waiting(
     tally: &mut Tally,
 ) -> Result<Vec<Reply>, NoMemory>
     requires few { length waiting.old.items < 2 ^ 32 }
-    ensures replies { IfOk result (λ replies. Delivers linker.old.state waiting.old.items replies.items linker.new.state) }
+    ensures replies { IfOk result (λ replies.
+        Delivers linker.old.state waiting.old.items replies.items linker.new.state) }
     ensures none_waits { waiting.new.items ≡ [] }
     ensures tally { tally.new ≡ tally.old }
 {

@@ -1,2 +1,3 @@
 pub mod EachTwoOf
 pub mod NightTracklets
+pub mod Sets

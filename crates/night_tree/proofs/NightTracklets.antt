@@ -1,59 +1,126 @@
--- The pairs of a night are tracklets, and their spots are spots of that night.
-use Rattle.std.proofs.Common.{◌≡◌, ℕ, ◌-ℤ◌, ◌<ℤ◌, Bool, true, false, ◌&&◌, List, [], ◌∷◌, ◌++◌, length, get_or, Option, Some, None, zero, suc, refl, arith, option_to_list}
-use Rattle.std.specs.Int.Signed.{lt_z, le_z}
-use Rattle.std.specs.List.{All, Contains, slice_get}
-use Rattle.std.proofs.lemmas.Bool.{false≢true}
-use Rattle.std.proofs.lemmas.Int.{ints}
-use Rattle.std.proofs.lemmas.List.Elements.{All-nil, All-cons, All-head, All-tail, All-append, All-map, All-contains, All-contains_itself, All-weaker, filter_passes}
-use Rattle.sky_math.specs.Circle.{wrapped}
-use Rattle.sky_units.specs.Pairs.{are_pair, are_some_pair, are_pair_at, all_pairs, keeps_rate, pairs_of}
-use Rattle.sky_units.specs.SettingsData.{SettingsData}
+-- Each tracklet of a night is one, and its spots are spots of that night.
+use Rattle.std.proofs.Common.{◌≡◌, ℕ, ◌<◌, pos, ◌-ℤ◌, ◌≤ℤ◌, ◌<ℤ◌, true, List, [], ◌∷◌, length, get_or, refl, subst, arith}
+use Rattle.std.specs.Cmp.Lexicographic.{slice_cmp}
+use Rattle.std.specs.List.{All, Contains, filter_map, slice_get}
+use Rattle.std.specs.Ordering.{int_eq, is_eq, is_lt, nat_cmp}
+use Rattle.std.specs.Prelude.{Option, Some, None}
+use Rattle.std.proofs.lemmas.Bool.{cases_Bool}
+use Rattle.std.proofs.lemmas.List.Elements.{All-cons, All-contains, All-contains_itself, All-head, All-map, All-nil, All-tail}
+use Prim.Native.Nat.{zero, suc}
+use mathlib.Core.Logic.{inl, inr}
+use Rattle.sky_units.proofs.SpotsAtPlaces.{spots_length}
+use Rattle.sky_units.specs.AtPlaces.{spots_at}
+use Rattle.sky_units.specs.Pairs.{EpochsDontFall, pairs_of}
+use Rattle.sky_units.specs.SettingsData.{AreSettings, SettingsData}
 use Rattle.sky_units.specs.SpotData.{SpotData}
 use Rattle.sky_units.specs.TrackletData.{IsTracklet}
 use Rattle.sky_units.specs.Tracks.{IsOfNight}
-use Rattle.night_tree.specs.Nights.{spots_of_pair, tracklets_of}
+use Rattle.line_fit.specs.Slopes.{AreOfOneDay}
+use Rattle.collapse.specs.Groups.{ArePlaces, groups_of, may_join, with_pair}
+use Rattle.collapse.proofs.Firsts.{later_of_pair, pair_below, pairs_below, places_all}
+use Rattle.collapse.proofs.OnLines.{arc_of_line, each_of_all, each_pair, groups_lie, pairs_lie, pair_grows, pairs_within, rising_of_line, within_pair}
+use Rattle.collapse.proofs.Together.{no_spot, two_at}
+use Rattle.purge.proofs.Left.{tracklet_left}
+use Rattle.purge.specs.Purging.{purge_of}
+use Rattle.night_tree.specs.Nights.{in_order, places_of_pair, sets_of, tracklets_of, with_set}
+use Rattle.night_tree.specs.Tracklets.{IsGroup, IsSet}
 use Rattle.night_tree.proofs.EachTwoOf.{each_two_cons}
 
-first_holds : (a b c d : Bool) → (a && b && c && d) ≡ true → a ≡ true
-first_holds true b c d h = refl
-first_holds false b c d h = h
-
-earlier : (s : SettingsData) (a b : SpotData) → are_pair s a b ≡ true → a.epoch <ℤ b.epoch
-earlier s a b h =
-    let e : lt_z a.epoch b.epoch ≡ true = first_holds (lt_z a.epoch b.epoch) (le_z (b.epoch -ℤ a.epoch) s.pair_gap) (keeps_rate s.rate_ra (b.epoch -ℤ a.epoch) (wrapped (b.ra -ℤ a.ra))) (keeps_rate s.rate_dec (b.epoch -ℤ a.epoch) (b.dec -ℤ a.dec)) h in
-    omega (arith, ints, e)
-
+-- ---- the sets of each stage
 two_spots : (a b : SpotData) → a.epoch <ℤ b.epoch → IsTracklet (a ∷ b ∷ [])
 two_spots a b h = record {
   two = omega arith;
   rising = each_two_cons (λ (p q : SpotData). p.epoch <ℤ q.epoch) a (b ∷ []) (All-cons (λ (q : SpotData). a.epoch <ℤ q.epoch) b [] h (All-nil (λ (q : SpotData). a.epoch <ℤ q.epoch))) (λ i j d ij jn. absurd (omega arith));
 }
 
-some_tracklet : (s : SettingsData) (first second : Option SpotData) → are_some_pair s first second ≡ true → IsTracklet (option_to_list first ++ option_to_list second)
-some_tracklet s (Some a) (Some b) h = two_spots a b (earlier s a b h)
-some_tracklet s (Some a) None h = absurd (false≢true h)
-some_tracklet s None second h = absurd (false≢true h)
+pub pairs_are_sets : (s : SettingsData) (spots : List SpotData) → All (λ pair. IsSet spots (places_of_pair pair)) (pairs_of s spots)
+pairs_are_sets s spots =
+    let each = each_pair IsTracklet s spots (λ a b h. two_spots a b (later_of_pair s a b h)) in
+    let within = pairs_within s spots in
+    λ k d kn. record { within = within k d kn; tracklet = each k d kn }
 
-pub pairs_are_tracklets : (s : SettingsData) (spots : List SpotData) → All (λ pair. IsTracklet (spots_of_pair spots pair)) (pairs_of s spots)
-pairs_are_tracklets s spots = All-weaker (λ pair. are_pair_at s spots pair ≡ true) (λ pair. IsTracklet (spots_of_pair spots pair))
-    (λ pair h. some_tracklet s (slice_get spots pair.0) (slice_get spots pair.1) h)
-    (pairs_of s spots) (filter_passes (are_pair_at s spots) (all_pairs (length spots) (length spots)))
+joined_set : (s : SettingsData) (spots : List SpotData) (pair : ℕ × ℕ) (group : List ℕ) → IsSet spots (places_of_pair pair) → IsSet spots group → may_join s spots pair group ≡ true → IsSet spots (with_pair group pair)
+joined_set s spots pair group new old joins =
+    let within : All (λ p. p < length spots) (with_pair group pair) = within_pair (length spots) pair group new.within old.within in
+    let two = old.tracklet.two in
+    let before = spots_length spots group old.within no_spot in
+    let after = spots_length spots (with_pair group pair) within no_spot in
+    let more = pair_grows group pair in
+    record { within = within; tracklet = record { two = omega (arith, two, before, after, more); rising = rising_of_line s.line_tol s.rate_ra s.rate_dec (spots_at spots (with_pair group pair)) joins } }
 
+pub groups_are_sets : (s : SettingsData) (spots : List SpotData) → All (IsSet spots) (groups_of s spots)
+groups_are_sets s spots = each_of_all (IsSet spots) s spots (pairs_of s spots) [] (pairs_are_sets s spots) (joined_set s spots) (All-nil (IsSet spots))
+
+all_some : {X Y : Type 0} (P : X → Type 0) (Q : Y → Type 0) (f : X → Option Y) (xs : List X) → ((x : X) (y : Y) → P x → f x ≡ Some y → Q y) → All P xs → All Q (filter_map f xs)
+all_some P Q f [] step h = All-nil Q
+all_some P Q f (x ∷ rest) step h = one (f x) refl (all_some P Q f rest step (All-tail P x rest h))
+  where
+    one : (o : Option _) → f x ≡ o → All Q (filter_map f rest) → All Q (filter_map f (x ∷ rest))
+    one None e others = rw e others
+    one (Some y) e others = rw e (All-cons Q y (filter_map f rest) (step x y (All-head P x rest h) e) others)
+
+pub purged_are_sets : (s : SettingsData) (spots : List SpotData) → All (IsSet spots) (filter_map (purge_of s spots) (groups_of s spots))
+purged_are_sets s spots = all_some (IsSet spots) (IsSet spots) (purge_of s spots) (groups_of s spots)
+    (λ group left h e. let t = tracklet_left s spots group left h.within h.tracklet.rising e in record { within = t.within; tracklet = t.tracklet })
+    (groups_are_sets s spots)
+
+pub are_sets : (s : SettingsData) (spots : List SpotData) → All (IsSet spots) (sets_of s spots)
+are_sets s spots = elim (cases_Bool (int_eq s.stages (pos 1))) as (λ _. All (IsSet spots) (sets_of s spots)) [
+  | inl one ↦ rw one (All-map (IsSet spots) places_of_pair (pairs_of s spots) (pairs_are_sets s spots))
+  | inr other ↦ elim (cases_Bool (int_eq s.stages (pos 2))) as (λ _. All (IsSet spots) (sets_of s spots)) [
+    | inl two ↦ rw (other, two) (groups_are_sets s spots)
+    | inr three ↦ rw (other, three) (purged_are_sets s spots)
+  ]
+]
+
+-- groups can be purged
+pub groups_are_groups : (s : SettingsData) (spots : List SpotData) → AreSettings s → EpochsDontFall spots → AreOfOneDay spots → All (IsGroup spots) (groups_of s spots)
+groups_are_groups s spots ranges order day =
+    let lie = groups_lie s spots (pairs_of s spots) (pairs_lie s spots ranges day (λ pair h. (pair_below s spots pair order h).0)) in
+    let are_places = places_all s spots (length spots) (pairs_of s spots) [] (pairs_below s spots order) (All-nil (ArePlaces (length spots))) in
+    λ k d kn.
+    let group : List ℕ = get_or (groups_of s spots) k d in
+    let near = two_at (λ x y. (y.epoch -ℤ x.epoch) ≤ℤ pos 1000000) spots group (are_places k d kn) day in
+    record { within = (are_places k d kn).within; arc = arc_of_line s.line_tol s.rate_ra s.rate_dec (spots_at spots group) (lie k d kn) near; day = near }
+
+-- ---- in order
+all_with_set : (P : List ℕ → Type 0) (set : List ℕ) (sets : List (List ℕ)) → P set → All P sets → All P (with_set set sets)
+all_with_set P set [] h all = All-cons P set [] h (All-nil P)
+all_with_set P set (first ∷ rest) h all = elim (cases_Bool (is_lt (slice_cmp nat_cmp set first))) as (λ _. All P (with_set set (first ∷ rest))) [
+  | inl lt ↦ rw lt (All-cons P set (first ∷ rest) h all)
+  | inr ge ↦ elim (cases_Bool (is_eq (slice_cmp nat_cmp set first))) as (λ _. All P (with_set set (first ∷ rest))) [
+    | inl same ↦ rw (ge, same) all
+    | inr gt ↦ rw (ge, gt) (All-cons P first (with_set set rest) (All-head P first rest all) (all_with_set P set rest h (All-tail P first rest all)))
+  ]
+]
+
+pub all_in_order : (P : List ℕ → Type 0) (sets : List (List ℕ)) → All P sets → All P (in_order sets)
+all_in_order P [] h = All-nil P
+all_in_order P (set ∷ rest) h = all_with_set P set (in_order rest) (All-head P set rest h) (all_in_order P rest (All-tail P set rest h))
+
+-- ---- the tracklets
 pub all_tracklets : (s : SettingsData) (spots : List SpotData) → All IsTracklet (tracklets_of s spots)
-all_tracklets s spots = All-map IsTracklet (spots_of_pair spots) (pairs_of s spots) (pairs_are_tracklets s spots)
+all_tracklets s spots =
+    let sets = all_in_order (IsSet spots) (sets_of s spots) (are_sets s spots) in
+    All-map IsTracklet (spots_at spots) (in_order (sets_of s spots)) (λ k d kn. (sets k d kn).tracklet)
 
--- what holds of each spot holds of that at a place
-all_at : (P : SpotData → Type 0) (xs : List SpotData) (k : ℕ) → All P xs → All P (option_to_list (slice_get xs k))
-all_at P [] k h = All-nil P
-all_at P (x ∷ xs) zero h = All-cons P x [] (All-head P x xs h) (All-nil P)
-all_at P (x ∷ xs) (suc k) h = all_at P xs k (All-tail P x xs h)
+none_no_some : (x : SpotData) → None ≡ Some x → ⊥
+none_no_some x h = cc
 
-all_of_pair : (P : SpotData → Type 0) (spots : List SpotData) (pair : ℕ × ℕ) → All P spots → All P (spots_of_pair spots pair)
-all_of_pair P spots pair h = All-append P (option_to_list (slice_get spots pair.0)) (option_to_list (slice_get spots pair.1)) (all_at P spots pair.0 h) (all_at P spots pair.1 h)
+some_same : (x y : SpotData) → Some x ≡ Some y → x ≡ y
+some_same x y h = cc
+
+-- what holds of each spot holds of those at places
+get_all : (P : SpotData → Type 0) (spots : List SpotData) (k : ℕ) (spot : SpotData) → All P spots → slice_get spots k ≡ Some spot → P spot
+get_all P [] k spot h e = absurd (none_no_some spot e)
+get_all P (x ∷ rest) zero spot h e = subst P (some_same x spot e) (All-head P x rest h)
+get_all P (x ∷ rest) (suc k) spot h e = get_all P rest k spot (All-tail P x rest h) e
+
+pub all_at : (P : SpotData → Type 0) (spots : List SpotData) (places : List ℕ) → All P spots → All P (spots_at spots places)
+all_at P spots places h = all_some (λ (k : ℕ). Unit {0}) P (slice_get spots) places (λ k spot u e. get_all P spots k spot h e) (λ k d l. _)
 
 pub tracklets_are_of : (s : SettingsData) (spots : List SpotData) → All (All (Contains spots)) (tracklets_of s spots)
-tracklets_are_of s spots = All-map (All (Contains spots)) (spots_of_pair spots) (pairs_of s spots)
-    (λ k d kn. all_of_pair (Contains spots) spots (get_or (pairs_of s spots) k d) (All-contains_itself spots))
+tracklets_are_of s spots = All-map (All (Contains spots)) (spots_at spots) (in_order (sets_of s spots)) (λ k d kn. all_at (Contains spots) spots (get_or (in_order (sets_of s spots)) k d) (All-contains_itself spots))
 
 -- a spot of a tracklet of a night is a spot of that night
 pub of_night : (s : SettingsData) (spots : List SpotData) (spot : SpotData) → IsOfNight (tracklets_of s spots) spot → Contains spots spot

@@ -3,6 +3,8 @@
 
 pub use nights::Night;
 
+mod listing;
 mod nights;
+mod stages;
 #[cfg(test)]
 mod tests;

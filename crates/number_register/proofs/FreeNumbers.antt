@@ -1,5 +1,5 @@
 -- The free numbers: which is the least, and what taking one and letting one go leave.
-use Rattle.std.proofs.Common.{◌≡◌, ℕ, ◌+◌, ◌<◌, ◌==◌, nat_lt, true, false, not, cond, Option, Some, None, List, [], ◌∷◌, length, set, refl, sym, ◌∙◌, arith, IsSome, inl, inr, ◌⊎◌, eq-eqb}
+use Rattle.std.proofs.Common.{◌≡◌, ℕ, ◌+◌, ◌<◌, ◌==◌, nat_lt, true, false, not, cond, Option, Some, None, List, [], ◌∷◌, length, get_or, set, refl, sym, ap, subst, ◌∙◌, arith, IsSome, inl, inr, ◌⊎◌, eq-eqb}
 use Rattle.std.specs.Option.{is_some}
 use Rattle.std.specs.List.{sum_by}
 use Rattle.std.specs.List.Sorted.{IsPermutation}
@@ -10,7 +10,7 @@ use Rattle.std.specs.declared.cmp.Reverse.{Reverse}
 use Rattle.std.proofs.Math.ListN.{length-set}
 use Rattle.std.proofs.lemmas.List.Sums.{sum_by-cons}
 use Rattle.std.proofs.lemmas.List.Sorted.{sum_by-IsPermutation, length_permutation}
-use Rattle.std.proofs.lemmas.Bool.{cases_eq, cases_Bool, lt-ltb, ne_eqb, ltb-true, and_parts, and_right}
+use Rattle.std.proofs.lemmas.Bool.{cases_eq, cases_lt, cases_Bool, lt-ltb, ne_eqb, ltb-true, and_parts, and_right}
 use Rattle.std.proofs.lemmas.Bool.Decides.{nat_tests}
 use Rattle.miti_text.specs.Observation.{Observation}
 use Rattle.number_register.specs.Numbering.{IsLeastFree, slot, put_at, is_free, AreFree}
@@ -55,23 +55,34 @@ is_free-some slots k d e = and_right (nat_lt k (length slots)) (not (is_some (sl
 left : (k : ℕ) (x : Reverse ℕ) (free rest : Free) → IsPermutation free (x ∷ rest) → cond (x.0 == k) 1 0 + often k rest ≡ often k free
 left k x free rest p = sym (sum_by-cons (λ y. cond (y.0 == k) 1 0) x rest) ∙ sum_by-IsPermutation (λ y. cond (y.0 == k) 1 0) free (x ∷ rest) p
 
-top_is_free : (slots : Slots) (x : Reverse ℕ) (free rest : Free) → AreFree slots free → IsPermutation free (x ∷ rest) → is_free slots x.0 ≡ true
-top_is_free slots x free rest a p = elim (cases_Bool (is_free slots x.0)) [
+-- ---- a number of the heap
+
+often_after : (x : Reverse ℕ) (free rest : Free) → IsPermutation free (x ∷ rest) → 0 < often x.0 free
+often_after x free rest p =
+    let here : (x.0 == x.0) ≡ true = eq-eqb x.0 x.0 refl in
+    let l = rw here at (left x.0 x free rest p) in
+    omega (arith, l)
+
+pub often_first : (x : Reverse ℕ) (free : Free) → 0 < length free → x ≡ get_or free 0 x → 0 < often x.0 free
+often_first x [] h e = absurd (omega arith)
+often_first x (y ∷ ys) h e =
+    let here : (y.0 == x.0) ≡ true = eq-eqb y.0 x.0 (ap (λ (z : Reverse ℕ). z.0) (sym e)) in
+    let l : often x.0 (y ∷ ys) ≡ 1 + often x.0 ys = sum_by-cons (λ z. cond (z.0 == x.0) 1 0) y ys ∙ rw here refl in
+    omega (arith, l)
+
+top_is_free : (slots : Slots) (x : Reverse ℕ) (free : Free) → AreFree slots free → 0 < often x.0 free → is_free slots x.0 ≡ true
+top_is_free slots x free a some = elim (cases_Bool (is_free slots x.0)) [
   | inl t ↦ t
-  | inr f ↦
-      let here : (x.0 == x.0) ≡ true = eq-eqb x.0 x.0 refl in
-      let l = rw here at (left x.0 x free rest p) in
-      let e = rw f at (a.each_once x.0) in
-      absurd (omega (arith, l, e))
+  | inr f ↦ let e = rw f at (a.each_once x.0) in absurd (omega (arith, some, e))
 ]
 
-some_or : (held : Option Observation) → (held ≡ None) ⊎ IsSome held
+pub some_or : (held : Option Observation) → (held ≡ None) ⊎ IsSome held
 some_or None = inl refl
 some_or (Some d) = inr refl
 
-pub least_is : (slots : Slots) (x : Reverse ℕ) (free rest : Free) → AreFree slots free → IsUpperBound cmp x free → IsPermutation free (x ∷ rest) → IsLeastFree (slot slots) x.0
-least_is slots x free rest a top p =
-    let here = free_parts slots x.0 (top_is_free slots x free rest a p) in
+pub least_is : (slots : Slots) (x : Reverse ℕ) (free : Free) → AreFree slots free → IsUpperBound cmp x free → 0 < often x.0 free → IsLeastFree (slot slots) x.0
+least_is slots x free a top some =
+    let here = free_parts slots x.0 (top_is_free slots x free a some) in
     record {
       is_free = here.1;
       lower_are_taken = λ k l. elim (some_or (slot slots k)) [
@@ -83,19 +94,33 @@ least_is slots x free rest a top p =
       ];
     }
 
-pub top_within : (slots : Slots) (x : Reverse ℕ) (free rest : Free) → AreFree slots free → IsPermutation free (x ∷ rest) → x.0 < length slots
-top_within slots x free rest a p = (free_parts slots x.0 (top_is_free slots x free rest a p)).0
+pub top_within : (slots : Slots) (x : Reverse ℕ) (free : Free) → AreFree slots free → 0 < often x.0 free → x.0 < length slots
+top_within slots x free a some = (free_parts slots x.0 (top_is_free slots x free a some)).0
+
+clash : (held : Option Observation) → held ≡ None → IsSome held → ⊥
+clash None e h = cc
+clash (Some d) e h = cc
+
+-- one number is the least free one
+pub same_least : (at : ℕ → Option Observation) (n m : ℕ) → IsLeastFree at n → IsLeastFree at m → n ≡ m
+same_least at n m a b = elim (cases_lt n m) [
+  | inl h ↦ absurd (clash (at n) a.is_free (b.lower_are_taken n h))
+  | inr ge ↦ elim (cases_lt m n) [
+    | inl h ↦ absurd (clash (at m) b.is_free (a.lower_are_taken m h))
+    | inr le ↦ omega (arith, ge, le)
+  ]
+]
 
 -- whether a number is free, where its slot and the length are as before
 same_free : (xs ys : Slots) (k : ℕ) → length ys ≡ length xs → slot ys k ≡ slot xs k → is_free ys k ≡ is_free xs k
 same_free xs ys k l e = rw (l, e) refl
 
-put_in_place : (slots : Slots) (n : ℕ) (held : Option Observation) → n < length slots → put_at slots n held ≡ set slots n held
+pub put_in_place : (slots : Slots) (n : ℕ) (held : Option Observation) → n < length slots → put_at slots n held ≡ set slots n held
 put_in_place slots n held h = rw (lt-ltb n (length slots) h) refl
 
-pub rest_is_free : (slots : Slots) (x : Reverse ℕ) (free rest : Free) → AreFree slots free → IsPermutation free (x ∷ rest) → IsHeap cmp rest → (d : Observation) → AreFree (put_at slots x.0 (Some d)) rest
+rest_is_free : (slots : Slots) (x : Reverse ℕ) (free rest : Free) → AreFree slots free → IsPermutation free (x ∷ rest) → IsHeap cmp rest → (d : Observation) → AreFree (put_at slots x.0 (Some d)) rest
 rest_is_free slots x free rest a p heap d =
-    let here = free_parts slots x.0 (top_is_free slots x free rest a p) in
+    let here = free_parts slots x.0 (top_is_free slots x free a (often_after x free rest p)) in
     let h : x.0 < length slots = here.0 in
     let same : length (set slots x.0 (Some d)) ≡ length slots = length-set slots x.0 (Some d) in
     let more = count-put slots x.0 d here.1 (omega (arith, h)) in
@@ -108,7 +133,7 @@ rest_is_free slots x free rest a p heap d =
         | inl eq ↦
             let there : slot (set slots x.0 (Some d)) k ≡ Some d = slot-set slots x.0 (Some d) h k ∙ (rw (eq-eqb k x.0 eq) refl) in
             let l = rw (eq-eqb x.0 k (sym eq)) at (left k x free rest p) in
-            let was : is_free slots k ≡ true = rw eq (top_is_free slots x free rest a p) in
+            let was : is_free slots k ≡ true = rw eq (top_is_free slots x free a (often_after x free rest p)) in
             let f = rw was at (a.each_once k) in
             rw (is_free-some (set slots x.0 (Some d)) k d there) (omega (arith, l, f))
         | inr ne ↦
@@ -119,6 +144,15 @@ rest_is_free slots x free rest a p heap d =
       total = omega (arith, a.total, len, same, more');
     } in
     rw e all
+
+-- the least free number n leaves the heap
+pub popped : (slots : Slots) (x : Reverse ℕ) (free rest : Free) (n : ℕ) → AreFree slots free → IsLeastFree (slot slots) n → IsPermutation free (x ∷ rest) → IsHeap cmp rest × IsUpperBound cmp x free
+    → (n < length slots) × ((d : Observation) → AreFree (put_at slots n (Some d)) rest)
+popped slots x free rest n a least p heap =
+    let some = often_after x free rest p in
+    let same : x.0 ≡ n = same_least (slot slots) x.0 n (least_is slots x free a heap.1 some) least in
+    let within = top_within slots x free a some in
+    (omega (arith, same, within), λ d. subst (λ (m : ℕ). AreFree (put_at slots m (Some d)) rest) same (rest_is_free slots x free rest a p heap.0 d))
 
 -- n joins the heap
 joined : (k n : ℕ) (free more : Free) → IsPermutation (record { 0 = n } ∷ free) more → often k more ≡ cond (n == k) 1 0 + often k free

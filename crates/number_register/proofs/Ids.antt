@@ -1,6 +1,8 @@
 -- The number of each id: what entering one and striking one out leave.
-use Rattle.std.proofs.Common.{◌≡◌, ◌≢◌, ℕ, ◌≤◌, nat_eq, Bool, true, false, cond, Option, Some, None, List, length, set, refl, sym, ap, ◌∙◌, inl, inr, ◌⊎◌, eq-eqb}
+use Rattle.std.proofs.Common.{◌≡◌, ◌≢◌, ℕ, ◌≤◌, nat_eq, Bool, true, false, cond, Option, Some, None, Ok, Err, List, length, set, refl, sym, ap, ◌∙◌, inl, inr, ◌⊎◌, eq-eqb}
 use Rattle.std.specs.Global.{Vec}
+use Rattle.std.specs.Result.{OnOk, OnErr}
+use Rattle.std.specs.declared.result.Result.{Result}
 use Rattle.std.specs.Map.{lookup, IsKeyTest, AreApart, KeepsOthers}
 use Rattle.std.specs.HashMap as hash
 use Rattle.std.specs.HashMap.{HashMap}
@@ -8,7 +10,7 @@ use Rattle.std.specs.Cmp.Lexicographic.{pointwise, bytes_decides, nat_list_eq_eq
 use Rattle.std.proofs.lemmas.Bool.{cases_Bool, cases_eq, ne_eqb, eqb-true, false_from_ne_true}
 use Rattle.miti_text.specs.Observation.{Observation}
 use Rattle.number_register.specs.Numbering.{slot, put_at}
-use Rattle.number_register.specs.IdNumbers.{id_hash, under_hash, under_id, AreNumbers, Enters, Strikes}
+use Rattle.number_register.specs.IdNumbers.{id_hash, under_hash, under_id, AreNumbers, StandAlike, Enters, Strikes}
 use Rattle.number_register.proofs.Slots.{slot-within, slot-set, slot-put}
 
 abbrev Slots : Type 0
@@ -40,6 +42,30 @@ id_changed m n bs w h cs = elim (cases_Bool (pointwise nat_eq bs cs)) [
   | inl y ↦ rw y (rw (← (bytes_decides bs cs).0 y) h.1)
   | inr f ↦ rw f (others_stay (λ x y. pointwise nat_eq x.items y.items) (λ k. pointwise nat_eq bs k.items) m.entries n.entries h.3 (λ k. pointwise nat_eq cs k.items) (λ x y. nat_list_eq_equiv.congr cs x.items y.items) (λ k. apart bs cs k.items f))
 ]
+
+certain : {T E P : Type 0} (r : Result T E) (found : Option ℕ) (n : ℕ) → found ≡ Some n → OnErr r (found ≡ None) → OnOk r P → P
+certain (Ok x) found n is none p = p
+certain (Err e) found n is none p = cc
+
+-- what is put back under a hash stands as it stood
+pub put_back : {S T E : Type 0} (m n k : HashMap ℕ ℕ S) (h other number : ℕ) (r : Result T E) → under_hash m.entries h ≡ Some other → hash.UpdatesBy nat_eq (nat_eq h) m n (Some number)
+    → OnErr r (under_hash n.entries h ≡ None) → OnOk r (hash.UpdatesBy nat_eq (nat_eq h) n k (Some other)) → StandAlike m.entries k.entries
+put_back m n k h other number r was first absent second q =
+    let here : under_hash n.entries h ≡ Some number = hash_changed m n h (Some number) first h ∙ rw (eq-eqb h h refl) refl in
+    let back = hash_changed n k h (Some other) (certain r (under_hash n.entries h) number here absent second) q in
+    elim (cases_Bool (nat_eq h q)) [
+      | inl y ↦ back ∙ rw y (sym was ∙ ap (under_hash m.entries) (eqb-true h q y))
+      | inr f ↦ back ∙ rw f (hash_changed m n h (Some number) first q ∙ rw f refl)
+    ]
+
+-- numbers by lookups that answer alike
+pub alike : (slots : Slots) (hashes hashes' : Hashes) (ids : Ids) → StandAlike hashes hashes' → AreNumbers slots hashes ids → AreNumbers slots hashes' ids
+alike slots hashes hashes' ids same a = record {
+  found = λ n d s. elim (a.found n d s) [ inl h ↦ inl (same (id_hash d.id) ∙ h) | inr i ↦ inr i ];
+  hashed = λ q n s. a.hashed q n (sym (same q) ∙ s);
+  named = a.named;
+  one_place = λ id n s h. a.one_place id n s (sym (same (id_hash id)) ∙ h);
+}
 
 -- ---- small facts
 
@@ -170,7 +196,7 @@ module _ (slots : Slots) (n : ℕ) (d : Observation) (hashes : Hashes) (ids : Id
 
   pub with_new : (hashes' : Hashes) (ids' : Ids) → Enters hashes ids hashes' ids' d.id n → AreNumbers (put_at slots n (Some d)) hashes' ids'
   with_new hashes' ids' (inl (absent, says, same)) = rw same (under_the_hash hashes' absent says)
-  with_new hashes' ids' (inr (m, taken, same, says)) = rw same (under_the_id ids' says)
+  with_new hashes' ids' (inr (m, taken, same, says)) = alike after hashes hashes' ids' same (under_the_id ids' says)
 
 -- ---- n is let go
 

@@ -1,11 +1,12 @@
 -- Taking numbers one after another, and letting them go.
-use Rattle.std.proofs.Common.{◌≡◌, ◌≢◌, ℕ, ◌+◌, ◌<◌, ◌==◌, Bool, true, false, ◌||◌, cond, Option, Some, None, IsSome, List, [], ◌∷◌, ◌++◌, length, get_or, take, take_all, refl, sym, ap, ◌∙◌, arith, zero, suc, inl, inr, ◌⊎◌, eq-eqb}
+use Rattle.std.proofs.Common.{◌≡◌, ◌≢◌, ℕ, ◌+◌, ◌<◌, ◌==◌, Bool, true, false, ◌||◌, cond, Option, Some, None, IsSome, List, [], ◌∷◌, ◌++◌, length, get_or, take, drop, reverse, take_all, refl, sym, ap, ◌∙◌, arith, zero, suc, inl, inr, ◌⊎◌, eq-eqb, length-take}
 use Rattle.std.specs.List.{list_any}
 use Rattle.std.proofs.lemmas.Bool.{cases_eq, cases_Bool, ne_eqb, eqb-true, or_parts, or_left, or_right, or_from}
+use Rattle.std.proofs.lemmas.List.{length_push, take_more, get_or-take, length-drop, reverse-append}
 use Rattle.std.proofs.lemmas.List.Folds.{list_any_more}
 use Rattle.miti_text.specs.Observation.{Observation}
 use Rattle.number_register.specs.Numbering.{with_at, IsLeastFree}
-use Rattle.number_register.specs.Numbering.{TakeLeast, with_all, without_numbers, AreDistinct}
+use Rattle.number_register.specs.Numbering.{TakeLeast, Takes, with_all, without_numbers, AreDistinct}
 
 abbrev At : Type 0
 At = ℕ → Option Observation
@@ -153,3 +154,73 @@ with_same f g h n held k = ap (λ (v : Option Observation). cond (k == n) held v
 
 pub all_gone : (at : At) (ns : List ℕ) (i : ℕ) → i ≡ length ns → (k : ℕ) → without_numbers at (take i ns) k ≡ without_numbers at ns k
 all_gone at ns i e k = rw (take_all i ns (omega arith)) refl
+
+-- ---- taking all of a list
+
+abbrev Ds : Type 0
+Ds = List Observation
+
+-- what holds as the detections are taken one after another, the last of `rest` next
+pub record Took (at : At) (ds rest : Ds) (ns : List ℕ) (now : At) : Type 0 where
+  pub left : reverse rest ≡ drop (length ns) ds
+  pub least : TakeLeast at ns (take (length ns) ds)
+  pub is : now ≡ with_all at ns (take (length ns) ds)
+
+first_is : (x y : Observation) (xs ys : Ds) → x ∷ xs ≡ y ∷ ys → x ≡ y
+first_is x y xs ys e = cc
+
+rest_is : (x y : Observation) (xs ys : Ds) → x ∷ xs ≡ y ∷ ys → xs ≡ ys
+rest_is x y xs ys e = cc
+
+front_is : (ds : Ds) (k : ℕ) (d : Observation) (rest : Ds) → drop k ds ≡ d ∷ rest → (k < length ds) × ((e : Observation) → get_or ds k e ≡ d) × (drop (suc k) ds ≡ rest)
+front_is [] zero d rest e = cc
+front_is [] (suc k) d rest e = cc
+front_is (x ∷ xs) zero d rest e = (omega arith, λ f. first_is x d xs rest e, rest_is x d xs rest e)
+front_is (x ∷ xs) (suc k) d rest e = let r = front_is xs k d rest e in (omega (arith, r.0), r.1, r.2)
+
+module _ (at : At) (ds rest rest' : Ds) (ns : List ℕ) (now : At) (d : Observation) (t : Took at ds rest ns now) (popped : rest ≡ rest' ++ d ∷ []) where
+  next : (length ns < length ds) × ((e : Observation) → get_or ds (length ns) e ≡ d) × (drop (suc (length ns)) ds ≡ reverse rest')
+  next = front_is ds (length ns) d (reverse rest') (sym t.left ∙ (ap reverse popped ∙ reverse-append rest' (d ∷ [])))
+
+  pub next_within : length ns < length ds
+  next_within = next.0
+
+  -- its id differs from those that are held
+  pub next_is_fresh : ((k n : ℕ) (e f : Observation) → k < length ds → at n ≡ Some e → e.id ≢ (get_or ds k f).id) → ((j k : ℕ) (e : Observation) → j < k → k < length ds → (get_or ds j e).id ≢ (get_or ds k e).id)
+      → (n : ℕ) (e : Observation) → now n ≡ Some e → e.id ≢ d.id
+  next_is_fresh fresh apart n e held same = elim (held_after at ns (take (length ns) ds) n e (sym (ap (λ (f : At). f n) t.is) ∙ held)) [
+    | inl was ↦ fresh (length ns) n e d next_within was (same ∙ ap (λ (x : Observation). x.id) (sym (next.1 d)))
+    | inr earlier ↦
+        let j : earlier.0 < length ns = omega (arith, earlier.1, length-take (length ns) ds) in
+        let there : get_or ds earlier.0 e ≡ e = sym (get_or-take (length ns) ds earlier.0 e j) ∙ earlier.2 in
+        apart earlier.0 (length ns) e j next_within (ap (λ (x : Observation). x.id) there ∙ (same ∙ ap (λ (x : Observation). x.id) (sym (next.1 e))))
+  ]
+
+  pub took_one_more : (n : ℕ) (now' : At) → IsLeastFree now n → now' ≡ with_at now n (Some d) → Took at ds rest' (ns ++ n ∷ []) now'
+  took_one_more n now' least is =
+      let many : length (ns ++ n ∷ []) ≡ suc (length ns) = omega (arith, length_push ns n) in
+      let step : take (length (ns ++ n ∷ [])) ds ≡ take (length ns) ds ++ d ∷ [] =
+      ap (λ (k : ℕ). take k ds) (length_push ns n) ∙ (take_more ds (length ns) d next_within ∙ ap (λ (x : Observation). take (length ns) ds ++ x ∷ []) (next.1 d)) in
+      let as_long : length ns ≡ length (take (length ns) ds) = as_many at ns (take (length ns) ds) t.least in
+      record {
+        left = sym (ap (λ (k : ℕ). drop k ds) many ∙ next.2);
+        least = rw step (take_one_more at ns (take (length ns) ds) n d t.least (rw t.is at least));
+        is = is ∙ (ap (λ (f : At). with_at f n (Some d)) t.is ∙ (sym (with_one_more at ns (take (length ns) ds) n d as_long) ∙ ap (with_all at (ns ++ n ∷ [])) (sym step)));
+      }
+
+pub took_all : (at : At) (ds rest : Ds) (ns : List ℕ) (now : At) → Took at ds rest ns now → length rest ≡ 0 → (length ns ≡ length ds) × Takes at ns ds now
+took_all at ds [] ns now t none =
+    let many = as_many at ns (take (length ns) ds) t.least in
+    let gone = ap length t.left in
+    let all : length ns ≡ length ds = omega (arith, many, gone, length-take (length ns) ds, length-drop (length ns) ds) in
+    let same : take (length ns) ds ≡ ds = take_all (length ns) ds (omega (arith, all)) in
+    (all, record { least = rw same at t.least; is = rw same at t.is })
+took_all at ds (x ∷ xs) ns now t none = absurd (omega (arith, none))
+
+-- those that are taken can be let go, and then all is as it was
+pub let_go_again : (at : At) (ds rest : Ds) (ns : List ℕ) (now : At) → Took at ds rest ns now → ((k : ℕ) → k < length ns → IsSome (now (get_or ns k 0))) × AreDistinct ns × ((k : ℕ) → without_numbers now ns k ≡ at k)
+let_go_again at ds rest ns now t = rw t.is (
+  (λ k h. taken_is_held at ns (take (length ns) ds) t.least (get_or ns k 0) (among_at ns k h)),
+  taken_are_distinct at ns (take (length ns) ds) t.least,
+  undone at ns (take (length ns) ds) t.least,
+)

@@ -1,13 +1,11 @@
 -- The number of each held id, found by a hash of its bytes.
-use Rattle.std.specs.Prelude.{◌≡◌, ◌≢◌, ℕ, ◌+◌, ◌*◌, ◌^◌, ◌%◌, ◌<◌, ◌⊎◌, nat_eq, cond, Option, Some, None, IsSome, List}
+use Rattle.std.specs.Prelude.{◌≡◌, ◌≢◌, ℕ, ◌+◌, ◌*◌, ◌^◌, ◌%◌, ◌⊎◌, nat_eq, cond, Option, Some, None, List}
 use Rattle.std.specs.Cmp.Lexicographic.{pointwise}
 use Rattle.std.specs.List.{fold}
 use Rattle.std.specs.Map.{lookup}
 use Rattle.std.specs.Global.{Vec}
 use Rattle.miti_text.specs.Observation.{Observation}
 use Rattle.number_register.specs.Numbering.{slot}
-use Rattle.number_register.specs.declared.id_numbers.Key.{Key}
-use Rattle.number_register.specs.declared.id_numbers.Key.TheVariants.{Hash, Id}
 
 -- the hash of the bytes before and of one more
 abbrev pub hash_step : ℕ → ℕ → ℕ
@@ -32,16 +30,15 @@ pub record AreNumbers (slots : List (Option Observation)) (hashes : List (ℕ ×
   pub named : (id : List ℕ) (n : ℕ) → under_id ids id ≡ Some n → (d : Observation) × (slot slots n ≡ Some d) × (d.id ≡ id)
   pub one_place : (id : List ℕ) (n : ℕ) → under_id ids id ≡ Some n → under_hash hashes (id_hash id) ≢ Some n
 
--- the number of an id can be entered under this key: under the hash, where none stands, or under the id
-abbrev pub IsReady : List (ℕ × ℕ) → ℕ → ℕ → List ℕ → Key → Type 0
-IsReady hashes room_by_hash room_by_id id (Hash hash) = (hash ≡ id_hash id) × (under_hash hashes hash ≡ None) × (0 < room_by_hash)
-IsReady hashes room_by_hash room_by_id id (Id word) = (word.items ≡ id) × IsSome (under_hash hashes (id_hash id)) × (0 < room_by_id)
+-- under each hash stands what stood there
+abbrev pub StandAlike : List (ℕ × ℕ) → List (ℕ × ℕ) → Type 0
+StandAlike hashes hashes' = (hash : ℕ) → under_hash hashes' hash ≡ under_hash hashes hash
 
 -- the number is entered under the id's hash, or, where another number stands there, under the id
 abbrev pub Enters : List (ℕ × ℕ) → List (Vec ℕ × ℕ) → List (ℕ × ℕ) → List (Vec ℕ × ℕ) → List ℕ → ℕ → Type 0
 Enters hashes ids hashes' ids' id n =
     ((under_hash hashes (id_hash id) ≡ None) × ((hash : ℕ) → under_hash hashes' hash ≡ cond (nat_eq (id_hash id) hash) (Some n) (under_hash hashes hash)) × (ids' ≡ ids))
-    ⊎ ((m : ℕ) × (under_hash hashes (id_hash id) ≡ Some m) × (hashes' ≡ hashes) × ((other : List ℕ) → under_id ids' other ≡ cond (pointwise nat_eq id other) (Some n) (under_id ids other)))
+    ⊎ ((m : ℕ) × (under_hash hashes (id_hash id) ≡ Some m) × StandAlike hashes hashes' × ((other : List ℕ) → under_id ids' other ≡ cond (pointwise nat_eq id other) (Some n) (under_id ids other)))
 
 -- the number is struck out under the id's hash, or, where it doesn't stand there, under the id
 abbrev pub Strikes : List (ℕ × ℕ) → List (Vec ℕ × ℕ) → List (ℕ × ℕ) → List (Vec ℕ × ℕ) → List ℕ → ℕ → Type 0

@@ -1,5 +1,5 @@
 //! The register of detections by number.
-ghost use Rattle.std.specs.Prelude.{◌≡◌, ◌≢◌, ℕ, ◌+◌, ◌-◌, ◌^◌, ◌<◌, ◌≤◌, [], None, Some, IsSome, IfOk, OnOk, OnErr, max, length, option_copied};
+ghost use Rattle.std.specs.Prelude.{◌≡◌, ◌≢◌, ℕ, ◌+◌, ◌-◌, ◌^◌, ◌<◌, ◌≤◌, [], None, Some, IsSome, IfOk, OnOk, OnErr, length, option_copied};
 ghost use Rattle.std.specs.BinaryHeap.{heap_items, heap_capacity};
 ghost use Rattle.std.specs.Vec.{vec_len, vec_capacity};
 ghost use Rattle.miti_text.specs.Observation.{Observation};
@@ -33,7 +33,8 @@ impl Model for Register {
 
     ghost view = { λ r. r.slots.items };
 
-    ghost invariant = { λ r. AreNumbers r.slots.items r.ids.by_hash.entries r.ids.by_id.entries × AreFree r.slots.items (heap_items r.free) × (vec_len r.slots ≤ heap_capacity r.free) };
+    ghost invariant = { λ r. AreNumbers r.slots.items r.ids.by_hash.entries r.ids.by_id.entries ×
+        AreFree r.slots.items (heap_items r.free) × (vec_len r.slots ≤ heap_capacity r.free) };
 }
 
 impl Register {
@@ -65,24 +66,35 @@ impl Register {
 
     /// The number of this id, if a held detection has it.
     pub fn find(&self, id: &[u8]) -> Option<u32>
-        ensures none { result ≡ None → (n : ℕ) (d : Observation) → slot self.now n ≡ Some d → d.id ≢ id.now }
-        ensures some { (n : ℕ) → result ≡ Some n → (d : Observation) × (slot self.now n ≡ Some d) × (d.id ≡ id.now) }
+        ensures none { result ≡ None → (n : ℕ) (d : Observation) → slot self.now n ≡ Some d →
+            d.id ≢ id.now }
+        ensures some { (n : ℕ) → result ≡ Some n →
+            (d : Observation) × (slot self.now n ≡ Some d) × (d.id ≡ id.now) }
     {
         self.ids.find(self.slots.as_slice(), id)
     }
 
+    /// Makes room for the ids of so many detections more.
+    pub(crate) fn reserve(&mut self, more: usize) -> Result<(), NoMemory>
+        ensures { self.new ≡ self.old }
+    {
+        self.ids.reserve(more)
+    }
+
     /// Gives the detection the least number that no held one has. Its id must not be held.
     pub fn take_in(&mut self, alloc: Global, detection: Detection) -> Result<u32, NoMemory>
-        requires fresh { (n : ℕ) (d : Observation) → slot self.old n ≡ Some d → d.id ≢ detection.id }
+        requires fresh { (n : ℕ) (d : Observation) → slot self.old n ≡ Some d →
+            d.id ≢ detection.id }
         requires few { count_held self.old + 1 < 2 ^ 32 }
-        ensures ok { IfOk result (λ n. IsLeastFree (slot self.old) n × (slot self.new ≡ with_at (slot self.old) n (Some detection)) × (count_held self.new ≡ count_held self.old + 1)) }
+        ensures ok { IfOk result (λ n. IsLeastFree (slot self.old) n ×
+            (slot self.new ≡ with_at (slot self.old) n (Some detection)) ×
+            (count_held self.new ≡ count_held self.old + 1)) }
         ensures err { OnErr result (self.new ≡ self.old) }
     {
-        let key = self.ids.prepare(alloc, detection.id.bytes())?;
         make_room(&mut self.slots, &mut self.free)?;
-        let number = least_free(&mut self.free, self.slots.as_slice());
-        put(&mut self.slots, number as usize, detection);
-        self.ids.enter(key, number);
+        let number = least_free(&self.free, self.slots.as_slice());
+        self.ids.enter(alloc, detection.id.bytes(), number)?;
+        put(&mut self.slots, &mut self.free, number, detection);
         Ok(number)
     }
 
@@ -109,7 +121,8 @@ fn make_room(
 ) -> Result<(), NoMemory>
     ensures items { slots.new.items ≡ slots.old.items }
     ensures same { heap_items free.new ≡ heap_items free.old }
-    ensures room { OnOk result (heap_items free.old ≡ [] → vec_len slots.new < vec_capacity slots.new) }
+    ensures room { OnOk result (heap_items free.old ≡ [] →
+        vec_len slots.new < vec_capacity slots.new) }
     ensures free_room { OnOk result (vec_capacity slots.new ≤ heap_capacity free.new) }
     ensures kept { heap_capacity free.old ≤ heap_capacity free.new }
 {
@@ -131,32 +144,40 @@ fn reserve_for(free: &mut BinaryHeap<Reverse<u32>>, slots: usize) -> Result<(), 
     Ok(())
 }
 
-/// Takes the least free number: from the heap, or the number of the next new slot.
-fn least_free(free: &mut BinaryHeap<Reverse<u32>>, slots: &[Option<Detection>]) -> u32
-    requires free { AreFree slots.now (heap_items free.old) }
+/// The least free number: the least of the heap, or the number of the next new slot.
+fn least_free(free: &BinaryHeap<Reverse<u32>>, slots: &[Option<Detection>]) -> u32
+    requires free { AreFree slots.now (heap_items free.now) }
     requires few { count_held slots.now + 1 < 2 ^ 32 }
     ensures least { IsLeastFree (slot slots.now) result }
     ensures within { result ≤ length slots.now }
-    ensures new { length slots.now ≤ result → heap_items free.old ≡ [] }
-    ensures rest { (d : Observation) → AreFree (put_at slots.now result (Some d)) (heap_items free.new) }
-    ensures room { heap_capacity free.new ≡ heap_capacity free.old }
 {
-    match free.pop() {
+    match free.peek() {
         Some(least) => least.0,
         None => slots.len() as u32,
     }
 }
 
-/// Puts the detection into the slot, or into a new one behind the others.
-fn put(slots: &mut Vec<Option<Detection>>, number: usize, detection: Detection)
+/// Puts the detection into the slot of the least free number, which leaves the heap, or, where none
+/// is in the heap, into a new slot behind the others.
+fn put(
+    slots: &mut Vec<Option<Detection>>,
+    free: &mut BinaryHeap<Reverse<u32>>,
+    number: u32,
+    detection: Detection,
+)
+    requires free { AreFree slots.old.items (heap_items free.old) }
+    requires least { IsLeastFree (slot slots.old.items) number }
     requires within { number ≤ vec_len slots.old }
-    requires room { vec_len slots.old ≤ number → vec_len slots.old < vec_capacity slots.old }
+    requires room { heap_items free.old ≡ [] → vec_len slots.old < vec_capacity slots.old }
     ensures items { slots.new.items ≡ put_at slots.old.items number (Some detection) }
-    ensures len { vec_len slots.new ≤ max (vec_len slots.old) (number + 1) }
+    ensures free { AreFree slots.new.items (heap_items free.new) }
+    ensures len { vec_len slots.new ≤ vec_capacity slots.old }
+    ensures capacity { heap_capacity free.new ≡ heap_capacity free.old }
 {
-    if number < slots.len() {
-        slots[number] = Some(detection);
-    } else {
-        let _ = slots.push(Some(detection));
+    match free.pop() {
+        Some(_) => slots[number as usize] = Some(detection),
+        None => {
+            let _ = slots.push(Some(detection));
+        }
     }
 }

@@ -4,11 +4,12 @@ use Rattle.std.proofs.lemmas.List.{append-nil}
 use Rattle.std.specs.Prelude.{Option, Some, None, Result, Ok, Err, IfSome, IsSomeAnd, ◌||◌, ◌↔◌, if◌then◌else◌}
 use Rattle.std.specs.Str.Lines.{lines, strip_carriage_return}
 use Rattle.std.specs.Io.KnownBytes.{Consumes, IsAtEnd, prepend_known}
+use Rattle.std.proofs.KnownBytes.{Consumes-nil}
 use Rattle.outer_io.proofs.LineCuts.{lines_at_feed, lines_of_last}
-use Rattle.outer_io.specs.Supply.{Supply, risen}
+use Rattle.outer_io.specs.Supply.{Supply}
 use Rattle.outer_io.specs.Seen.{NoFeed}
 use Rattle.outer_io.specs.Reading.{Reading, ahead, used, HandsOut, SawNoLine, FaultsAfter, CountsOn, Ends}
-use Rattle.outer_io.specs.Advance.{Advances, Moved}
+use Rattle.outer_io.specs.Advance.{Advances, Moved, IsOver}
 use Rattle.outer_io.specs.declared.line_reader.Got.{Got}
 use Rattle.outer_io.specs.declared.line_reader.Got.TheVariants.{Line, End}
 use Rattle.outer_io.specs.declared.line_reader.ReadStop.{ReadStop}
@@ -118,15 +119,25 @@ faults_after r n s t (Ok End) (inr p) = ap (λ x. x.faults) p.source
 faults_after r n s t (Err Failed) p = p.faults
 faults_after r n s t (Err TooLong) p = p.faults
 
-by_difference : (a b c : ℕ) → b ≡ a + c → c ≡ b - a
-by_difference a b c e = omega arith
-
 moved_counts : (r n : Reading) (s t : Supply) (given : List ℕ) (end : Bool) → Moved r n s t given end → n.took ≤ 2 ^ 32 → length n.held ≤ n.took → CountsOn r n s t
 moved_counts r n s t given end m within held = record {
-  rises = omega (arith, m.counted);
+  given = given;
+  bytes = m.took.consumed;
+  counted = m.counted;
+  taken = m.took.taken;
   within = within;
   held = held;
-  taken = m.took.taken ∙ ap (λ k. risen s.taken k) (by_difference r.took n.took (length given) m.counted);
+}
+
+-- a reader that was at its end takes nothing
+over_counts : (r n : Reading) (s t : Supply) → IsOver r n s t → CountsOn r n s t
+over_counts r n s t p = record {
+  given = [];
+  bytes = subst (λ (x : Supply). Consumes s.left x.left []) (sym p.source) (Consumes-nil s.left);
+  counted = omega (arith, p.took);
+  taken = ap (λ (x : Supply). x.taken) p.source ∙ omega arith;
+  within = omega (arith, p.limit);
+  held = omega (arith, ap length p.stops.held);
 }
 
 pub counts_on : (r n : Reading) (s t : Supply) (result : Result Got ReadStop) → Advances r n s t result → CountsOn r n s t
@@ -134,7 +145,7 @@ counts_on r n s t (Ok Line) (inl p) = moved_counts r n s t p.given false p.moved
     (omega (arith, ap length p.cut, length-append r.held p.given, length-append p.raw (10 ∷ n.held), p.moved.held, p.moved.counted))
 counts_on r n s t (Ok Line) (inr p) = moved_counts r n s t p.given true p.moved (omega (arith, p.limit)) (omega (arith, ap length p.held))
 counts_on r n s t (Ok End) (inl p) = moved_counts r n s t p.given true p.moved (omega (arith, p.limit)) (omega (arith, ap length p.stops.held))
-counts_on r n s t (Ok End) (inr p) = record { rises = omega (arith, p.took); within = omega (arith, p.limit); held = omega (arith, ap length p.stops.held); taken = ap (λ x. x.taken) p.source ∙ omega (arith, p.took) }
+counts_on r n s t (Ok End) (inr p) = over_counts r n s t p
 counts_on r n s t (Err Failed) p = moved_counts r n s t p.given false p.moved (omega (arith, p.limit)) (omega (arith, ap length p.stops.held))
 counts_on r n s t (Err TooLong) p = moved_counts r n s t (p.given ++ p.extra ∷ []) false p.moved (omega (arith, p.limit)) (omega (arith, ap length p.stops.held))
 

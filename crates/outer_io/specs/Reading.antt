@@ -54,12 +54,14 @@ FaultsAfter (Err Failed) old new = Rises old new
 FaultsAfter (Err TooLong) old new = new ≡ old
 FaultsAfter (Ok got) old new = new ≡ old
 
--- a reader and its source count the same bytes, and a reader never takes more than 2^32
+-- a reader took these bytes, the next ones of its source; both count them, and a reader never takes more than 2^32
 pub record CountsOn (reader_old reader_new : Reading) (old new : Supply) : Type 0 where
-  pub rises : reader_old.took ≤ reader_new.took
+  pub given : List ℕ
+  pub bytes : Consumes old.left new.left given
+  pub counted : reader_new.took ≡ reader_old.took + length given
+  pub taken : new.taken ≡ risen old.taken (length given)
   pub within : reader_new.took ≤ 2 ^ 32
   pub held : length reader_new.held ≤ reader_new.took
-  pub taken : new.taken ≡ risen old.taken (reader_new.took - reader_old.took)
 
 -- the end is marked where a read of this call answered it; nothing is left then, and nothing is held back
 pub record Ends (reader_old reader_new : Reading) (old new : Supply) : Type 0 where

@@ -79,7 +79,8 @@ impl Model for LineReader {
       line = slice_range r.buffer.items r.line_start r.line_end;
     } };
 
-    ghost invariant = { λ r. IsSound (length r.buffer.items) r.start r.end r.line_start r.line_end r.took r.ended r.stopped };
+    ghost invariant = { λ r. IsSound
+        (length r.buffer.items) r.start r.end r.line_start r.line_end r.took r.ended r.stopped };
 }
 
 /// How a search for a line feed in the source came out. The line that had begun lies at the front
@@ -134,14 +135,18 @@ impl LineReader {
 
         // Where the source tells its bytes: the lines come one after another, and none is left at the end.
         ensures line { result ≡ Ok Got.Line → IfSome (ahead self.old (S.supply source.old))
-            (λ bytes. IsSomeAnd (ahead self.new (S.supply source.new)) (λ rest. HandsOut bytes self.new.line rest self.new.ended)) }
-        ensures end { result ≡ Ok Got.End → IfSome (ahead self.old (S.supply source.old)) (λ bytes. bytes ≡ []) }
-        ensures failed { result ≡ Err ReadStop.Failed → SawNoLine self.old self.new (S.supply source.old) (S.supply source.new) [] }
+            (λ bytes. IsSomeAnd (ahead self.new (S.supply source.new))
+            (λ rest. HandsOut bytes self.new.line rest self.new.ended)) }
+        ensures end { result ≡ Ok Got.End →
+            IfSome (ahead self.old (S.supply source.old)) (λ bytes. bytes ≡ []) }
+        ensures failed { result ≡ Err ReadStop.Failed →
+            SawNoLine self.old self.new (S.supply source.old) (S.supply source.new) [] }
         ensures too_long { result ≡ Err ReadStop.TooLong → (extra : ℕ)
             × SawNoLine self.old self.new (S.supply source.old) (S.supply source.new) (extra ∷ []) }
 
         // At any source.
-        ensures faults { FaultsAfter result (S.supply source.old).faults (S.supply source.new).faults }
+        ensures faults { FaultsAfter result (S.supply source.old).faults
+            (S.supply source.new).faults }
         ensures counts { CountsOn self.old self.new (S.supply source.old) (S.supply source.new) }
         ensures limit { (result ≡ Err ReadStop.TooLong) ↔ (self.new.took ≡ 2 ^ 32) }
         ensures progress { result ≡ Ok Got.Line → used self.old < used self.new }
@@ -151,7 +156,8 @@ impl LineReader {
         ensures empty { self.new.stopped ≡ true → (self.new.held ≡ []) × (self.new.line ≡ []) }
 
         // Nothing is read where a whole line is held back, or a read answered the end.
-        ensures waiting { Contains self.old.held 10 → (result ≡ Ok Got.Line) × (source.new ≡ source.old) }
+        ensures waiting { Contains self.old.held 10 →
+            (result ≡ Ok Got.Line) × (source.new ≡ source.old) }
         ensures over { self.old.ended ≡ true → (result ≡ Ok Got.End) × (source.new ≡ source.old) }
     {
         self.advance(source)
@@ -160,8 +166,10 @@ impl LineReader {
     /// The same, by what the reader comes to.
     fn advance<S: Source>(&mut self, source: &mut S) -> Result<Got, ReadStop>
         requires unstopped { self.old.stopped ≡ false }
-        ensures advances { Advances self.old self.new (S.supply source.old) (S.supply source.new) result }
-        ensures waiting { Contains self.old.held 10 → (result ≡ Ok Got.Line) × (source.new ≡ source.old) }
+        ensures advances { Advances self.old self.new (S.supply source.old)
+            (S.supply source.new) result }
+        ensures waiting { Contains self.old.held 10 →
+            (result ≡ Ok Got.Line) × (source.new ≡ source.old) }
         ensures over { self.old.ended ≡ true → source.new ≡ source.old }
     {
         match find_feed(self.buffer.as_slice(), self.start, self.end) {
@@ -179,7 +187,8 @@ impl LineReader {
     fn read_on<S: Source>(&mut self, source: &mut S) -> Result<Got, ReadStop>
         requires unstopped { self.old.stopped ≡ false }
         requires none { NoFeed self.old.held }
-        ensures advances { Advances self.old self.new (S.supply source.old) (S.supply source.new) result }
+        ensures advances { Advances self.old self.new (S.supply source.old)
+            (S.supply source.new) result }
         ensures over { self.old.ended ≡ true → source.new ≡ source.old }
     {
         self.line_start = 0;
@@ -242,7 +251,8 @@ impl LineReader {
 fn find_feed(buffer: &[u8], start: usize, end: usize) -> Option<usize>
     requires order { start ≤ end }
     requires within { end ≤ length buffer.now }
-    ensures { MatchOption result (NoFeed (slice_range buffer.now start end)) (FeedAt buffer.now start end) }
+    ensures { MatchOption result (NoFeed (slice_range buffer.now start end))
+        (FeedAt buffer.now start end) }
 {
     memchr(b'\n', &buffer[start..end]).map(|at| start + at)
 }
@@ -253,7 +263,8 @@ fn content_end(buffer: &[u8], start: usize, feed: usize) -> usize
     requires within { feed < length buffer.now }
     ensures order { start ≤ result }
     ensures within { result ≤ feed }
-    ensures content { slice_range buffer.now start result ≡ take 1025 (strip_carriage_return (slice_range buffer.now start feed)) }
+    ensures content { slice_range buffer.now start result ≡
+        take 1025 (strip_carriage_return (slice_range buffer.now start feed)) }
 {
     stripped_end(buffer, start, feed).min(start + CONTENT_LEN)
 }
@@ -264,7 +275,8 @@ fn stripped_end(buffer: &[u8], start: usize, feed: usize) -> usize
     requires within { feed < length buffer.now }
     ensures order { start ≤ result }
     ensures within { result ≤ feed }
-    ensures content { slice_range buffer.now start result ≡ strip_carriage_return (slice_range buffer.now start feed) }
+    ensures content { slice_range buffer.now start result ≡
+        strip_carriage_return (slice_range buffer.now start feed) }
 {
     if start < feed && buffer[feed - 1] == b'\r' {
         return feed - 1;
@@ -285,7 +297,8 @@ fn read_behind<S: Source>(
     requires order { start ≤ end }
     requires within { end ≤ length buffer.old }
     requires limit { took.old < 2 ^ 32 }
-    ensures { ReachedFrom (slice_range buffer.old start end) buffer.new took.old took.new (S.supply source.old) (S.supply source.new) result }
+    ensures { ReachedFrom (slice_range buffer.old start end) buffer.new took.old took.new
+        (S.supply source.old) (S.supply source.new) result }
 {
     let begun = keep_begun(buffer, start, end);
     read_to_feed(buffer, begun, took, source)
@@ -315,7 +328,8 @@ fn read_to_feed<S: Source>(
     requires room { length buffer.old ≡ 66562 }
     requires begun { begun ≤ 1026 }
     requires limit { took.old < 2 ^ 32 }
-    ensures { ReachedFrom (take begun buffer.old) buffer.new took.old took.new (S.supply source.old) (S.supply source.new) result }
+    ensures { ReachedFrom (take begun buffer.old) buffer.new took.old took.new
+        (S.supply source.old) (S.supply source.new) result }
 {
     let mut kept = begun;
     loop {

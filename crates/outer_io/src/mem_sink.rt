@@ -37,7 +37,8 @@ impl Model for MemSink {
       calls = s.calls;
     } };
 
-    ghost invariant = { λ s. (s.filled ≤ length s.kept.items) × (s.flushed ≤ s.filled) × (0 < s.piece) };
+    ghost invariant = { λ s. (s.filled ≤ length s.kept.items) × (s.flushed ≤ s.filled) ×
+        (0 < s.piece) };
 }
 
 impl MemSink {
@@ -54,7 +55,16 @@ impl MemSink {
         fails: Vec<u64>,
     ) -> Result<MemSink, AllocError>
         requires { 0 < piece }
-        ensures { IfOk result (λ sink. sink ≡ record { written = []; flushed = 0; faults = 0; room = room; piece = piece; fails = fails.items; calls = 0 }) }
+        ensures { IfOk result (λ sink. sink ≡
+            record {
+              written = [];
+              flushed = 0;
+              faults = 0;
+              room = room;
+              piece = piece;
+              fails = fails.items;
+              calls = 0;
+            }) }
     {
         let kept = vec![in alloc; 0; room]?;
         Ok(MemSink {
@@ -87,11 +97,17 @@ impl Sink for MemSink {
     ghost receipt = { mem_receipt };
 
     fn write(&mut self, piece: &[u8]) -> Result<usize, Failed>
-        ensures wrote { IfOk result (λ n. Wrote (mem_receipt self.old) (mem_receipt self.new) piece.now n) }
+        ensures wrote { IfOk result (λ n.
+            Wrote (mem_receipt self.old) (mem_receipt self.new) piece.now n) }
         ensures failed { OnErr result (WriteFailed (mem_receipt self.old) (mem_receipt self.new)) }
-        ensures count { IfOk result (λ n. n ≡ min (min self.old.piece (length piece.now)) (self.old.room - length self.old.written)) }
+        ensures count { IfOk result (λ n. n ≡
+            min (min self.old.piece (length piece.now)) (self.old.room - length self.old.written)) }
         ensures fails { IsErr result ↔ FailsAt self.old (length piece.now) }
-        ensures calls { self.new ≡ record self.old { written = self.new.written; faults = self.new.faults; calls = risen self.old.calls 1 } }
+        ensures calls { self.new ≡ record self.old {
+          written = self.new.written;
+          faults = self.new.faults;
+          calls = risen self.old.calls 1;
+        } }
     {
         let number = self.calls;
         self.calls = number.saturating_add(1);
@@ -110,7 +126,11 @@ impl Sink for MemSink {
         ensures flushed { OnOk result (Flushed (mem_receipt self.old) (mem_receipt self.new)) }
         ensures failed { OnErr result (WriteFailed (mem_receipt self.old) (mem_receipt self.new)) }
         ensures fails { IsErr result ↔ Contains self.old.fails self.old.calls }
-        ensures calls { self.new ≡ record self.old { flushed = self.new.flushed; faults = self.new.faults; calls = risen self.old.calls 1 } }
+        ensures calls { self.new ≡ record self.old {
+          flushed = self.new.flushed;
+          faults = self.new.faults;
+          calls = risen self.old.calls 1;
+        } }
     {
         let number = self.calls;
         self.calls = number.saturating_add(1);

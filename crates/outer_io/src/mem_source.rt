@@ -43,7 +43,15 @@ impl MemSource {
     /// stands in `fails` fails.
     pub fn new(bytes: Vec<u8>, piece: usize, fails: Vec<u64>) -> MemSource
         requires { 0 < piece }
-        ensures { result ≡ record { left = bytes.items; taken = 0; ended = false; faults = 0; piece = piece; fails = fails.items; calls = 0 } }
+        ensures { result ≡ record {
+          left = bytes.items;
+          taken = 0;
+          ended = false;
+          faults = 0;
+          piece = piece;
+          fails = fails.items;
+          calls = 0;
+        } }
     {
         MemSource {
             bytes,
@@ -61,9 +69,11 @@ impl Source for MemSource {
     ghost supply = { mem_supply };
 
     fn read(&mut self, buf: &mut [u8]) -> Result<usize, Failed>
-        ensures gave { IfOk result (λ n. Gave (mem_supply self.old) (mem_supply self.new) buf.new n) }
+        ensures gave { IfOk result (λ n.
+            Gave (mem_supply self.old) (mem_supply self.new) buf.new n) }
         ensures failed { OnErr result (ReadFailed (mem_supply self.old) (mem_supply self.new)) }
-        ensures count { IfOk result (λ n. n ≡ min (min self.old.piece (length buf.new)) (length self.old.left)) }
+        ensures count { IfOk result (λ n. n ≡
+            min (min self.old.piece (length buf.new)) (length self.old.left)) }
         ensures fails { IsErr result ↔ Contains self.old.fails self.old.calls }
         ensures calls { self.new.calls ≡ risen self.old.calls 1 }
         ensures kept { (self.new.piece ≡ self.old.piece) × (self.new.fails ≡ self.old.fails) }
@@ -119,7 +129,8 @@ impl Source for SureSource {
     ghost supply = { sure_supply };
 
     fn read(&mut self, buf: &mut [u8]) -> Result<usize, Failed>
-        ensures gave { IfOk result (λ n. Gave (sure_supply self.old) (sure_supply self.new) buf.new n) }
+        ensures gave { IfOk result (λ n.
+            Gave (sure_supply self.old) (sure_supply self.new) buf.new n) }
         ensures failed { OnErr result (ReadFailed (sure_supply self.old) (sure_supply self.new)) }
         ensures whole { result ≡ Ok (min (length buf.new) (length self.old.left)) }
     {
@@ -160,8 +171,10 @@ impl Source for EndlessSource {
     ghost supply = { endless_supply };
 
     fn read(&mut self, buf: &mut [u8]) -> Result<usize, Failed>
-        ensures gave { IfOk result (λ n. Gave (endless_supply self.old) (endless_supply self.new) buf.new n) }
-        ensures failed { OnErr result (ReadFailed (endless_supply self.old) (endless_supply self.new)) }
+        ensures gave { IfOk result (λ n.
+            Gave (endless_supply self.old) (endless_supply self.new) buf.new n) }
+        ensures failed { OnErr result
+            (ReadFailed (endless_supply self.old) (endless_supply self.new)) }
         ensures whole { result ≡ Ok (length buf.old) }
         ensures byte { self.new.byte ≡ self.old.byte }
         ensures bytes { buf.new ≡ replicate (length buf.old) self.old.byte }

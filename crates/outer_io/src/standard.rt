@@ -21,7 +21,12 @@ impl<R: Read> Model for StdSource<R> {
 
     ghost Value = { Supply };
 
-    ghost view = { λ s. record { left = R.remaining s.reader; taken = s.taken; ended = s.ended; faults = s.faults } };
+    ghost view = { λ s. record {
+      left = R.remaining s.reader;
+      taken = s.taken;
+      ended = s.ended;
+      faults = s.faults;
+    } };
 }
 
 impl<R: Read> StdSource<R> {
@@ -71,7 +76,11 @@ pub struct StdSink<W: Write> {
 impl<W: Write> StdSink<W> {
     /// A sink into `writer`. What the writer holds already counts as flushed.
     pub fn new(writer: W) -> StdSink<W>
-        ensures { result ≡ record { written = W.contents writer; flushed = flushed_of (W.contents writer) 0; faults = 0 } }
+        ensures { result ≡ record {
+          written = W.contents writer;
+          flushed = flushed_of (W.contents writer) 0;
+          faults = 0;
+        } }
     {
         StdSink {
             writer,
@@ -86,7 +95,11 @@ impl<W: Write> Model for StdSink<W> {
 
     ghost Value = { Receipt };
 
-    ghost view = { λ s. record { written = W.contents s.writer; flushed = flushed_of (W.contents s.writer) s.unflushed; faults = s.faults } };
+    ghost view = { λ s. record {
+      written = W.contents s.writer;
+      flushed = flushed_of (W.contents s.writer) s.unflushed;
+      faults = s.faults;
+    } };
 }
 
 impl<W: Write> Sink for StdSink<W> {

@@ -1,0 +1,3 @@
+pub mod OneEpoch
+pub mod Pruned
+pub mod Pruning

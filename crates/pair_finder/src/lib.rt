@@ -1,21 +1,25 @@
 //! The pairs of one night: two detections that one object of a bounded rate may have left.
 #![tactic(auto)]
 
-ghost use Rattle.std.specs.Prelude.{◌≡◌, ◌<◌, ◌≤◌, ◌^◌, pos, negsuc, ◌≤ℤ◌, ◌<ℤ◌, length, slice_index_or, take, IfOk, OnOk, ◌++◌, map};
-ghost use Rattle.std.specs.List.{All, filter};
-ghost use Rattle.sky_units.specs.Ranges.{IsBetween};
-ghost use Rattle.sky_units.specs.SpotData.{SpotData};
-ghost use Rattle.sky_units.specs.Pairs.{keeps_rate as keeps_rate_of, are_pair as are_pair_of, are_pair_at, pairs_of, below, EpochsDontFall};
+ghost use Rattle.std.specs.Prelude.{◌≡◌, ◌<◌, ◌^◌, ℕ, length, IfOk, IsTrue};
+ghost use Rattle.std.specs.List.{All};
+ghost use Rattle.sky_units.specs.Pairs.{pairs_of, EpochsDontFall};
+ghost use Rattle.pair_finder.specs.OneEpoch.{AreOfOneEpoch};
 
-use sky_units::{NoMemory, Settings, Spot, wrap};
+use box_tree::{Tree, join_two};
+use pairing::{Pairing, Placed};
+use sky_units::{NoMemory, Settings, Spot, Tally};
 use std::alloc::Global;
 
-/// The ticks of a day, over which rates are counted.
-const TICKS_PER_DAY: i64 = 1_000_000;
+mod nearness;
+mod pairing;
+mod rates;
+#[cfg(test)]
+mod tests;
 
 /// The pairs of a night, in lexicographic order: the two places in `spots` of each.
 ///
-/// `spots` are the spots of one night, of epochs that don't fall.
+/// `spots` are the spots of one night, of epochs that don't fall. The only error is want of memory.
 pub fn pairs(
     alloc: Global,
     spots: &[Spot],
@@ -25,120 +29,49 @@ pub fn pairs(
     requires order { EpochsDontFall spots.now }
     ensures { IfOk result (λ pairs. pairs.items ≡ pairs_of settings.now spots.now) }
 {
-    let mut found = Vec::new(alloc);
-    let mut later = 0;
-    for first in 0..spots.len() {
-        later = first_after(spots, &spots[first], later);
-        push_partners(&mut found, spots, first, later, settings)?;
+    if are_of_one_epoch(spots) {
+        return Ok(Vec::new(alloc));
     }
-    Ok(found)
+    let tree = tree_of(alloc, spots)?;
+    let pairing = Pairing {
+        settings: *settings,
+    };
+    let found = join_two(alloc, &tree, &tree, &pairing, &mut Tally::zero())?;
+    narrowed(alloc, found.as_slice())
 }
 
-/// The first place from `from` on of a spot that is later than `earlier`, or the number of all spots.
-/// Spots of one epoch are so passed over once, and not once for each of them.
-fn first_after(spots: &[Spot], earlier: &Spot, from: usize) -> usize
-    requires from { from ≤ length spots.now }
-    requires passed { All (λ spot. spot.epoch ≤ℤ earlier.now.epoch) (take from spots.now) }
-    ensures bound { result ≤ length spots.now }
-    ensures passed { All (λ spot. spot.epoch ≤ℤ earlier.now.epoch) (take result spots.now) }
-    ensures later { (d : SpotData) → result < length spots.now → earlier.now.epoch <ℤ (slice_index_or spots.now result d).epoch }
+/// Whether no spot is later than another one. Such spots make no pair, so they need no tree.
+fn are_of_one_epoch(spots: &[Spot]) -> bool
+    requires { EpochsDontFall spots.now }
+    ensures { IsTrue result → AreOfOneEpoch spots.now }
 {
-    for place in from..spots.len() {
-        let spot = spots[place];
-        if spot.epoch > earlier.epoch {
-            return place;
-        }
+    if spots.is_empty() {
+        return true;
     }
-    spots.len()
+    let first = &spots[0];
+    let last = &spots[spots.len() - 1];
+    last.epoch <= first.epoch
 }
 
-/// Adds the pairs whose earlier spot stands at the place `first`, in order of the later one. No spot
-/// before the place `later` is later than it.
-fn push_partners(
-    found: &mut Vec<(u32, u32)>,
-    spots: &[Spot],
-    first: usize,
-    later: usize,
-    settings: &Settings,
-) -> Result<(), NoMemory>
-    requires few { length spots.now < 2 ^ 32 }
-    requires order { EpochsDontFall spots.now }
-    requires within { first < length spots.now }
-    requires bound { later ≤ length spots.now }
-    requires passed { (d : SpotData) → All (λ spot. spot.epoch ≤ℤ (slice_index_or spots.now first d).epoch) (take later spots.now) }
-    ensures { OnOk result (found.new.items ≡ found.old.items ++ filter (are_pair_at settings.now spots.now) (map (λ second. (first, second)) (below (length spots.now)))) }
+/// The tree of a night's spots.
+fn tree_of(alloc: Global, spots: &[Spot]) -> Result<Tree<Placed>, NoMemory>
+    ensures { IfOk result (λ tree. tree ≡ spots.now) }
 {
-    let earlier = spots[first];
-    for second in later..spots.len() {
-        let other = spots[second];
-        if other.epoch - earlier.epoch > settings.pair_gap {
-            break;
-        }
-        if are_pair(&earlier, &other, settings) {
-            found.push((first as u32, second as u32))?;
-        }
+    let mut placed = Vec::with_capacity(alloc, spots.len())?;
+    for spot in spots {
+        placed.push(Placed { spot: *spot })?;
     }
-    Ok(())
+    Tree::build(alloc, placed)
 }
 
-/// Whether two spots of one night are a pair, the first one earlier.
-fn are_pair(first: &Spot, second: &Spot, settings: &Settings) -> bool
-    ensures { result ≡ are_pair_of settings.now first.now second.now }
+/// Pairs of places as their numbers of 32 bits.
+fn narrowed(alloc: Global, places: &[(usize, usize)]) -> Result<Vec<(u32, u32)>, NoMemory>
+    requires { All (λ (pair : ℕ × ℕ). (pair.0 < 2 ^ 32) × (pair.1 < 2 ^ 32)) places.now }
+    ensures { IfOk result (λ narrow. narrow.items ≡ places.now) }
 {
-    if second.epoch <= first.epoch {
-        return false;
+    let mut narrow = Vec::with_capacity(alloc, places.len())?;
+    for pair in places {
+        narrow.push((pair.0 as u32, pair.1 as u32))?;
     }
-    let ticks = second.epoch - first.epoch;
-    if ticks > settings.pair_gap {
-        return false;
-    }
-    if !keeps_rate(wrap(second.ra - first.ra), settings.rate_ra, ticks) {
-        return false;
-    }
-    keeps_rate(second.dec - first.dec, settings.rate_dec, ticks)
-}
-
-/// Whether a difference of positions over so many ticks keeps the rate.
-fn keeps_rate(difference: i64, rate: i64, ticks: i64) -> bool
-    requires difference { IsBetween (negsuc 179999999) (pos 180000000) difference }
-    requires rate { IsBetween (pos 0) (pos 10000000) rate }
-    requires ticks { IsBetween (pos 0) (pos 1000000) ticks }
-    ensures { result ≡ keeps_rate_of rate ticks difference }
-{
-    let reach = rate * ticks;
-    let moved = difference * TICKS_PER_DAY;
-    -reach <= moved && moved <= reach
-}
-
-#[cfg(test)]
-mod tests {
-    use super::*;
-
-    /// A spot of one night, at 5 degrees of declination.
-    fn spot(num: u32, epoch: i64, ra: i64) -> Spot
-        requires epoch { IsBetween (pos 59000250000) (pos 59000280000) epoch }
-        requires ra { IsBetween (pos 10000000) (pos 10003000) ra }
-        ensures { result.epoch ≡ epoch }
-    {
-        Spot {
-            num,
-            epoch,
-            ra,
-            dec: 5_000_000,
-        }
-    }
-
-    #[test]
-    fn pairs_of_one_night(rt: HostRuntime) -> Result<(), NoMemory> {
-        let spots = [
-            spot(0, 59_000_250_000, 10_000_000),
-            spot(1, 59_000_260_000, 10_001_000),
-            spot(2, 59_000_270_000, 10_002_500),
-            spot(3, 59_000_280_000, 10_003_000),
-        ];
-        let found = pairs(rt.alloc(), &spots, &Settings::standard())?;
-        let six = [(0, 1), (0, 2), (0, 3), (1, 2), (1, 3), (2, 3)];
-        assert_eq!(rt; found.as_slice(), six.as_slice());
-        Ok(())
-    }
+    Ok(narrow)
 }

@@ -1,8 +1,8 @@
 -- The spots of a choice: they are spots of the nights, their epochs rise, and their numbers tell the choice.
-use Rattle.std.proofs.Common.{◌≡◌, ℕ, ◌+◌, ◌<◌, ◌≤◌, ◌<ℤ◌, List, [], ◌∷◌, ◌++◌, length, take, drop, map, get_or, refl, sym, subst, ap, ◌∙◌, arith}
+use Rattle.std.proofs.Common.{◌≡◌, ℕ, ◌+◌, ◌*◌, ◌<◌, ◌≤◌, ◌<ℤ◌, List, [], ◌∷◌, ◌++◌, length, length-append, take, drop, map, get_or, refl, sym, subst, ap, ◌∙◌, arith}
 use Rattle.std.proofs.lemmas.Int.{ints}
 use Rattle.std.proofs.lemmas.List.{take-append-drop, get_or-map, length-map}
-use Rattle.std.proofs.lemmas.List.Elements.{All-cons, All-head, All-tail, All-contains, Contains-get_or, Contains-append_right, Contains-append_cases}
+use Rattle.std.proofs.lemmas.List.Elements.{All-nil, All-cons, All-head, All-tail, All-append, All-contains, Contains-get_or, Contains-append_right, Contains-append_cases}
 use Rattle.std.specs.List.{All, Contains}
 use mathlib.Core.Logic.{inl, inr}
 use Rattle.sky_units.proofs.RisingLists.{rising_across}
@@ -166,3 +166,30 @@ among_spots (x ∷ xs) ys same h =
     let e : x ≡ w.0 = same x w.0 (0, omega arith, refl) w.1 (sym w.2) in
     All-cons (Contains ys) x xs (subst (Contains ys) (sym e) w.1)
     (among_spots xs ys (λ u v p q. same u v (Contains-append_right (x ∷ []) xs u p) q) (All-tail (Contains (map (λ (s : SpotData). s.num) ys)) x.num (map (λ (s : SpotData). s.num) xs) h))
+
+-- ---- what all tracklets have, a choice of them has
+pub few_chosen : (nights : List NightTracklets) (set : TrackSetData) → IsChoice nights set → length set ≤ length nights
+few_chosen [] set h = omega (arith, ap length h)
+few_chosen (night ∷ nights) set h = elim h [
+  | inl a ↦ (let rest = few_chosen nights set a in omega (arith, rest))
+  | inr a ↦ (let rest = few_chosen nights a.1 a.4 in omega (arith, rest, ap length a.3))
+]
+
+pub chosen_have : (P : TrackletData → Type 0) (nights : List NightTracklets) (set : TrackSetData) → All (All P) nights → IsChoice nights set → All P set
+chosen_have P [] set all h = rw h (All-nil P)
+chosen_have P (night ∷ nights) set all h = elim h [
+  | inl a ↦ chosen_have P nights set (All-tail (All P) night nights all) a
+  | inr a ↦
+      rw a.3 (All-cons P a.0 a.1 (All-contains P night a.0 (All-head (All P) night nights all) a.2)
+      (chosen_have P nights a.1 (All-tail (All P) night nights all) a.4))
+]
+
+pub two_each : (set : TrackSetData) → All IsTracklet set → 2 * length set ≤ length (spots_of set)
+two_each [] h = omega arith
+two_each (t ∷ set) h =
+    let two : 2 ≤ length t = (All-head IsTracklet t set h).two in
+    omega (arith, two, length-append t (spots_of set), two_each set (All-tail IsTracklet t set h))
+
+pub all_spots : (P : SpotData → Type 0) (set : TrackSetData) → All (All P) set → All P (spots_of set)
+all_spots P [] h = All-nil P
+all_spots P (t ∷ set) h = All-append P t (spots_of set) (All-head (All P) t set h) (all_spots P set (All-tail (All P) t set h))

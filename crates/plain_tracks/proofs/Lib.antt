@@ -6,5 +6,6 @@ pub mod Entries
 pub mod Existence
 pub mod Members
 pub mod MoreNights
+pub mod Relabelled
 pub mod Steps
 pub mod Tracks

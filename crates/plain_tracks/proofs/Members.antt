@@ -1,7 +1,9 @@
 -- Lists of exactly the things of a property, and properties that hold or don't of each thing.
-use Rattle.std.proofs.Common.{◌≡◌, List, [], ◌∷◌, map, sym, subst, ◌↔◌, arith}
-use Rattle.std.proofs.lemmas.List.Elements.{All-nil, All-cons, All-head, All-tail}
-use Rattle.std.specs.List.{All, Contains}
+use Rattle.std.proofs.Common.{◌≡◌, Bool, true, false, None, Some, List, [], ◌∷◌, map, refl, sym, subst, ap, ◌∙◌, ◌↔◌, arith}
+use Rattle.std.proofs.lemmas.Bool.{cases_Bool, false≢true}
+use Rattle.std.proofs.lemmas.List.Elements.{All-nil, All-cons, All-head, All-tail, All-map}
+use Rattle.std.specs.List.{All, Contains, filter, find, list_any}
+use Rattle.std.specs.Map.{lookup}
 use mathlib.Core.Logic.{◌⊎◌, inl, inr}
 use Rattle.sky_math.specs.Lists.{EachTwo}
 use Rattle.night_tree.proofs.EachTwoOf.{each_two_cons, each_two_head, each_two_tail}
@@ -44,6 +46,12 @@ contains_or_not (y ∷ ys) x same = elim (same y (in_front y ys)) [
     | inr never ↦ inr (λ c. elim (front_or_rest y ys x c) [ inl e ↦ differ e | inr d ↦ never d ])
   ]
 ]
+
+-- ---- of a map
+pub each_two_map : {X Y : Type 0} (R : Y → Y → Type 0) (f : X → Y) (xs : List X) → EachTwo (λ x y. R (f x) (f y)) xs → EachTwo R (map f xs)
+each_two_map R f [] h = λ i j d ij jn. absurd (omega arith)
+each_two_map R f (x ∷ xs) h =
+    each_two_cons R (f x) (map f xs) (All-map (R (f x)) f xs (each_two_head (λ a b. R (f a) (f b)) x xs h)) (each_two_map R f xs (each_two_tail (λ a b. R (f a) (f b)) x xs h))
 
 -- ---- exactly the things of a property
 pub record Members {X : Type 0} (P : X → Type 0) : Type 0 where
@@ -91,3 +99,41 @@ of_mapped f (x ∷ xs) y c = elim (front_or_rest (f x) (map f xs) y c) [
   | inl e ↦ (x, in_front x xs, e)
   | inr d ↦ (let w = of_mapped f xs y d in (w.0, in_rest x xs w.0 w.1, w.2))
 ]
+
+-- ---- members that a search finds
+pub found_in : {X : Type 0} → (p : X → Bool) (xs : List X) (x : X) → find p xs ≡ Some x → Contains xs x × (p x ≡ true)
+found_in p [] x e = absurd (cc)
+found_in p (y ∷ xs) x e = elim (cases_Bool (p y)) [
+  | inl t ↦
+      let first : Some y ≡ Some x = rw t at e in
+      let same : y ≡ x = cc in
+      (subst (Contains (y ∷ xs)) same (in_front y xs), ap p (sym same) ∙ t)
+  | inr f ↦ (let rest = found_in p xs x (rw f at e) in (in_rest y xs x rest.0, rest.1))
+]
+
+pub none_in : {X : Type 0} → (p : X → Bool) (xs : List X) (x : X) → find p xs ≡ None → Contains xs x → p x ≡ true → ⊥
+none_in p [] x e c h = in_none x c
+none_in p (y ∷ xs) x e c h = elim (cases_Bool (p y)) [
+  | inl t ↦ (let first : Some y ≡ None = rw t at e in cc)
+  | inr f ↦ elim (front_or_rest y xs x c) [ inl same ↦ false≢true (sym f ∙ (ap p same ∙ h)) | inr d ↦ none_in p xs x (rw f at e) d h ]
+]
+
+-- a look-up finds an entry that passes, where all that pass have its value
+pub found : {K V : Type 0} → (test : K → Bool) (es : List (K × V)) (k : K) (v : V) → Contains es (k, v) → test k ≡ true → ((e : K × V) → Contains es e → test e.0 ≡ true → e.1 ≡ v) → lookup test es ≡ Some v
+found test [] k v c t only = absurd (in_none (k, v) c)
+found test (x ∷ es) k v c t only = elim (cases_Bool (test x.0)) [
+  | inl y ↦ rw y (ap (λ w. Some w) (only x (in_front x es) y))
+  | inr n ↦ elim (front_or_rest x es (k, v) c) [
+    | inl e ↦ absurd (false≢true (sym n ∙ (ap (λ z. test z.0) e ∙ t)))
+    | inr d ↦ rw n (found test es k v d t (λ e i. only e (in_rest x es e i)))
+  ]
+]
+
+pub none_of : {X : Type 0} → (p : X → Bool) (xs : List X) → list_any p xs ≡ false → filter p xs ≡ []
+none_of p [] h = refl
+none_of p (x ∷ xs) h = elim (cases_Bool (p x)) [ inl t ↦ absurd (false≢true (sym (rw t at h))) | inr f ↦ rw f (none_of p xs (rw f at h)) ]
+
+-- what is given back of each
+pub each_same : {X Y Z : Type 0} → (f : X → Y) (g : Y → Z) (h : X → Z) (xs : List X) → ((x : X) → Contains xs x → g (f x) ≡ h x) → map g (map f xs) ≡ map h xs
+each_same f g h [] e = refl
+each_same f g h (x ∷ xs) e = rw (e x (in_front x xs), each_same f g h xs (λ y c. e y (in_rest x xs y c))) refl

@@ -1,5 +1,5 @@
 -- Nights with one more after them.
-use Rattle.std.proofs.Common.{◌≡◌, ℕ, ◌<◌, ◌≤◌, ℤ, ◌+ℤ◌, ◌≤ℤ◌, ◌<ℤ◌, List, [], ◌∷◌, ◌++◌, get_or, sym, subst, ap, ◌∙◌, arith}
+use Rattle.std.proofs.Common.{◌≡◌, ℕ, ◌<◌, ◌≤◌, ℤ, pos, ◌+ℤ◌, ◌-ℤ◌, ◌≤ℤ◌, ◌<ℤ◌, List, [], ◌∷◌, ◌++◌, get_or, sym, subst, ap, ◌∙◌, arith}
 use Rattle.std.proofs.lemmas.Int.{ints}
 use Rattle.std.proofs.lemmas.List.Elements.{All-nil, All-cons, All-append, Contains-get_or, Contains-push_cases}
 use Rattle.std.specs.List.{All}
@@ -9,8 +9,9 @@ use Rattle.sky_units.specs.SettingsData.{SettingsData}
 use Rattle.sky_units.specs.SpotData.{SpotData}
 use Rattle.sky_units.specs.TrackletData.{IsTracklet, NightTracklets}
 use Rattle.sky_units.specs.Tracks.{AreNights, IsHeld, IsNightBefore, IsOfNight}
+use Rattle.line_fit.specs.Slopes.{AreOfOneDay}
 use Rattle.night_tree.specs.Nights.{tracklets_of}
-use Rattle.night_tree.proofs.EachTwoOf.{each_two_append}
+use Rattle.night_tree.proofs.EachTwoOf.{each_two_append, each_two_cons}
 use Rattle.night_tree.proofs.NightTracklets.{all_tracklets, of_night}
 use Rattle.plain_tracks.proofs.Entries.{front_or_rest}
 use Rattle.plain_tracks.proofs.Steps.{in_none}
@@ -26,17 +27,6 @@ pub record IsWithin (low high : ℤ) (least most : ℕ) (spot : SpotData) : Type
 pub record AreUpTo (low high : ℤ) (most : ℕ) (nights : List NightTracklets) : Type 0 where
   pub are : AreNights nights
   pub within : (spot : SpotData) → IsHeld nights spot → IsWithin low high 0 most spot
-
-pub no_nights : (low high : ℤ) (most : ℕ) → AreUpTo low high most []
-no_nights low high most = record {
-  are = record {
-    tracklets = All-nil (All IsTracklet);
-    follow = λ i j d ij jl. absurd (omega arith);
-    short = λ s t p q. absurd (in_none p.0 p.1);
-    numbered = λ s t p q. absurd (in_none p.0 p.1);
-  };
-  within = λ s p. absurd (in_none p.0 p.1);
-}
 
 -- a night after the others: its tracklets, its spots, and that no two of them have one number
 pub record IsNext (high next : ℤ) (most more : ℕ) (night : NightTracklets) : Type 0 where
@@ -95,6 +85,9 @@ one_of_two s a b spot w = elim (front_or_rest a (b ∷ []) spot (of_night s (a �
   | inl e ↦ inl e
   | inr c ↦ elim (front_or_rest b [] spot c) [ inl e ↦ inr e | inr d ↦ absurd (in_none spot d) ]
 ]
+
+pub day_of_two : (a b : SpotData) → (b.epoch -ℤ a.epoch) ≤ℤ pos 1000000 → AreOfOneDay (a ∷ b ∷ [])
+day_of_two a b h = each_two_cons (λ (p q : SpotData). (q.epoch -ℤ p.epoch) ≤ℤ pos 1000000) a (b ∷ []) (All-cons (λ (q : SpotData). (q.epoch -ℤ a.epoch) ≤ℤ pos 1000000) b [] h (All-nil (λ (q : SpotData). (q.epoch -ℤ a.epoch) ≤ℤ pos 1000000))) (λ i j d ij jl. absurd (omega arith))
 
 number_of_two : (a b spot other : SpotData) → a.num < b.num → (a ≡ spot) ⊎ (b ≡ spot) → (a ≡ other) ⊎ (b ≡ other) → spot.num ≡ other.num → spot ≡ other
 number_of_two a b spot other l (inl p) (inl q) e = sym p ∙ q

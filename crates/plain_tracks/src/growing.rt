@@ -19,7 +19,8 @@ pub fn fitting_sets(
     settings: &Settings,
 ) -> Result<Vec<TrackSet>, NoMemory>
     requires { AreNights (tracklets_of_each nights.now) }
-    ensures { IfOk result (λ sets. (set : TrackSetData) → Contains sets.items set ↔ IsFittingSet settings.now (tracklets_of_each nights.now) set) }
+    ensures { IfOk result (λ sets. (set : TrackSetData) →
+        Contains sets.items set ↔ IsFittingSet settings.now (tracklets_of_each nights.now) set) }
 {
     // The set of no tracklets fits, since no greatest acceleration is negative.
     let _ = &settings.acc_ra;
@@ -48,7 +49,9 @@ fn grow(
     tally: &mut Tally,
 ) -> Result<Vec<TrackSet>, NoMemory>
     requires { (set : TrackSetData) → Contains sets.items set → MayGrow set night.now }
-    ensures { IfOk result (λ all. (other : TrackSetData) → Contains all.items other ↔ (Contains sets.items other ⊎ IsSomeGrown settings.now sets.items night.now other)) }
+    ensures { IfOk result (λ all. (other : TrackSetData) →
+        Contains all.items other ↔
+        (Contains sets.items other ⊎ IsSomeGrown settings.now sets.items night.now other)) }
 {
     let mut all = sets;
     let mut grown = Vec::new(alloc);
@@ -69,7 +72,9 @@ fn push_grown(
     grown: &mut Vec<TrackSet>,
 ) -> Result<(), NoMemory>
     requires { MayGrow set.now night.now }
-    ensures { OnOk result ((other : TrackSetData) → Contains grown.new.items other ↔ (Contains grown.old.items other ⊎ IsGrown settings.now set.now night.now other)) }
+    ensures { OnOk result ((other : TrackSetData) →
+        Contains grown.new.items other ↔
+        (Contains grown.old.items other ⊎ IsGrown settings.now set.now night.now other)) }
 {
     let spots = joined_spots(alloc, set)?;
     for tracklet in night {

@@ -23,7 +23,8 @@ pub fn maximal_tracks(
     settings: &Settings,
 ) -> Result<Vec<TrackSet>, NoMemory>
     requires { AreNights (tracklets_of_each nights.now) }
-    ensures { IfOk result (λ list. AreMaximalTracks settings.now (tracklets_of_each nights.now) list.items) }
+    ensures { IfOk result (λ list.
+        AreMaximalTracks settings.now (tracklets_of_each nights.now) list.items) }
 {
     let sets = fitting_sets(alloc, nights, settings)?;
     maximal_among(alloc, of_three_nights(sets))
@@ -31,7 +32,8 @@ pub fn maximal_tracks(
 
 /// The sets of three or more tracklets, those that were found last first.
 fn of_three_nights(sets: Vec<TrackSet>) -> Vec<TrackSet>
-    ensures { (set : TrackSetData) → Contains result.items set ↔ (Contains sets.items set × (3 ≤ length set)) }
+    ensures { (set : TrackSetData) →
+        Contains result.items set ↔ (Contains sets.items set × (3 ≤ length set)) }
 {
     let mut tracks = sets;
     tracks.retain(|set| set.tracklets().len() >= 3);
@@ -45,7 +47,10 @@ fn maximal_among(alloc: Global, tracks: Vec<TrackSet>) -> Result<Vec<TrackSet>, 
     requires known { AreKnownByNumbers tracks.items }
     requires different { HaveDifferentNumbers tracks.items }
     ensures once { IfOk result (λ list. EachTwo (λ one other. one ≡ other → ⊥) list.items) }
-    ensures listed { IfOk result (λ list. (set : TrackSetData) → Contains list.items set ↔ (Contains tracks.items set × IsMaximalAmong (map numbers_of tracks.items) (numbers_of set))) }
+    ensures listed { IfOk result (λ list. (set : TrackSetData) →
+        Contains list.items set ↔
+        (Contains tracks.items set ×
+        IsMaximalAmong (map numbers_of tracks.items) (numbers_of set))) }
 {
     let lists = numbers_of_each(alloc, tracks.as_slice())?;
     let most = longest(lists.as_slice());

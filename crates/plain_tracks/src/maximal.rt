@@ -41,7 +41,8 @@ pub fn longest(lists: &[Vec<u32>]) -> usize
 
 /// The numbers of the spots of each set.
 pub fn numbers_of_each(alloc: Global, sets: &[TrackSet]) -> Result<Vec<Vec<u32>>, NoMemory>
-    ensures { IfOk result (λ lists. map (λ list. list.items) lists.items ≡ map numbers_of sets.now) }
+    ensures { IfOk result (λ lists. map (λ list. list.items) lists.items ≡
+        map numbers_of sets.now) }
 {
     let mut lists = Vec::with_capacity(alloc, sets.len())?;
     for set in sets {
@@ -62,7 +63,8 @@ pub fn numbers(alloc: Global, set: &TrackSet) -> Result<Vec<u32>, NoMemory>
 /// another. Only a longer list may contain them properly.
 fn are_part(one: &[u32], other: &[u32]) -> bool
     requires { AreDifferent one.now }
-    ensures { MatchBool result (AreAmong one.now other.now × ¬ AreAmong other.now one.now) (AreAmong one.now other.now → AreAmong other.now one.now) }
+    ensures { MatchBool result (AreAmong one.now other.now ×
+        ¬ AreAmong other.now one.now) (AreAmong one.now other.now → AreAmong other.now one.now) }
 {
     if one.len() >= other.len() {
         return false;

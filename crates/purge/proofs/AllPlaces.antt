@@ -1,6 +1,6 @@
 -- The spots at all places are all the spots.
 use Rattle.std.proofs.Common.{◌≡◌, ℕ, ◌+◌, ◌<◌, ◌≤◌, List, [], ◌∷◌, ◌++◌, length, take, get_or, refl, subst, sym, ap, ◌∙◌, arith}
-use Rattle.std.specs.List.{All, filter_map, range_with_len}
+use Rattle.std.specs.List.{All, range_with_len}
 use Rattle.std.specs.Prelude.{slice_get, Some}
 use Rattle.std.proofs.lemmas.List.{take_more, take_all}
 use Rattle.std.proofs.lemmas.List.Elements.{All-nil, All-push, filter_map-append}
@@ -8,7 +8,7 @@ use Rattle.std.proofs.lemmas.Option.{slice_get-get_or}
 use Prim.Native.Nat.{zero, suc}
 use Rattle.sky_units.specs.Pairs.{below}
 use Rattle.sky_units.specs.SpotData.{SpotData}
-use Rattle.purge.specs.Purging.{spots_at}
+use Rattle.sky_units.specs.AtPlaces.{spots_at}
 
 last_number : (a n : ℕ) → range_with_len a (n + 1) ≡ range_with_len a n ++ (a + n) ∷ []
 last_number a zero = let e : a + 0 ≡ a = omega arith in rw e refl
@@ -26,13 +26,6 @@ below_all (suc n) m h =
     let e : n + 1 ≡ suc n = omega arith in
     let b : below n ++ n ∷ [] ≡ below (suc n) = below_more n ∙ ap below e in
     subst (All (λ p. p < m)) b (All-push (λ p. p < m) (below n) n (below_all n m (omega arith)) (omega arith))
-
-pub below_length : (n : ℕ) → length (below n) ≡ n
-below_length n = counted 0 n
-  where
-    counted : (a n : ℕ) → length (range_with_len a n) ≡ n
-    counted a zero = refl
-    counted a (suc n) = ap suc (counted (a + 1) n)
 
 spots_taken : (spots : List SpotData) (n : ℕ) (d : SpotData) → n ≤ length spots → spots_at spots (below n) ≡ take n spots
 spots_taken spots zero d h = refl

@@ -1,6 +1,5 @@
 -- The residuals of the least-squares line, times one number, are whole: its normal equations determine them.
-use Rattle.std.proofs.Common.{◌≡◌, ℕ, ◌+◌, ◌<◌, ◌≤◌, ℤ, pos, ◌+ℤ◌, ◌-ℤ◌, ◌*ℤ◌, ◌≤ℤ◌, ◌<ℤ◌, List, [], ◌∷◌, map, length, get_or, refl, sym, subst, ap, ◌∙◌, arith}
-use Rattle.std.specs.List.{All}
+use Rattle.std.proofs.Common.{◌≡◌, ℕ, ◌≤◌, ℤ, pos, ◌+ℤ◌, ◌-ℤ◌, ◌*ℤ◌, ◌≤ℤ◌, ◌<ℤ◌, List, [], ◌∷◌, map, length, get_or, refl, sym, ap, ◌∙◌, arith}
 use Rattle.std.proofs.lemmas.Int.{ints, by_lt_z}
 use Rattle.std.proofs.lemmas.List.{length-map}
 use Prim.Native.Nat.{zero, suc}
@@ -12,7 +11,7 @@ use Rattle.sky_units.specs.Arcs.{HaveRisingEpochs}
 use Rattle.sky_units.specs.Motion.{point_from, points}
 use Rattle.sky_units.specs.SpotData.{SpotData}
 use Rattle.sky_units.specs.declared.axis.Axis.{Axis}
-use Rattle.sky_units.specs.declared.axis.Axis.TheVariants.{Ra, Dec}
+use Rattle.sky_units.specs.declared.axis.Axis.TheVariants.{Ra}
 use Rattle.line_fit.specs.Lines.{Line}
 use Rattle.purge.specs.LeastSquares.{total, residual, count, times, squares, positions, products, time_spread, line_over, IsLeastSquares, HasResiduals}
 

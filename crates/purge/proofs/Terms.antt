@@ -1,5 +1,5 @@
 -- The sums and products of a least-squares line fit 128 bits, and are read from their bits as they are.
-use Rattle.std.proofs.Common.{◌≡◌, ℕ, ◌+◌, ◌*◌, ◌≤◌, ◌^◌, ℤ, ◌+ℤ◌, ◌-ℤ◌, ◌*ℤ◌, to_z, of_z, w64, FitsSigned, refl, arith}
+use Rattle.std.proofs.Common.{◌≡◌, ℕ, ◌+◌, ◌≤◌, ◌^◌, ℤ, ◌+ℤ◌, ◌-ℤ◌, ◌*ℤ◌, to_z, of_z, w64, FitsSigned, refl, arith}
 use mir.Syntax.{w128}
 use Rattle.std.specs.Int.RustNames.{unsigned_abs}
 use Rattle.std.proofs.lemmas.Int.{ints, to_z-of_z}
@@ -9,7 +9,7 @@ use Rattle.purge.specs.Sizes.{AreSmallSums, IsSmallLine, IsSmallPoint}
 abbrev pub held : ℤ → ℤ
 held n = to_z w128 (of_z w128 n)
 
-pub fits : (z : ℤ) → unsigned_abs z ≤ 1267650600228229401496703205376 → FitsSigned w128 z
+pub fits : (z : ℤ) → unsigned_abs z ≤ 1329227995784915872903807060280344576 → FitsSigned w128 z
 fits z h = omega (arith, ints)
 
 apart : (x y : ℤ) (k : ℕ) → unsigned_abs x ≤ k → unsigned_abs y ≤ k → unsigned_abs (x -ℤ y) ≤ k + k
@@ -26,9 +26,9 @@ pub record CrossTerms (a b c d : ℤ) (k : ℕ) : Type 0 where
   pub is : held (held (held a *ℤ held b) -ℤ held (held c *ℤ held d)) ≡ (a *ℤ b) -ℤ (c *ℤ d)
   pub size : unsigned_abs ((a *ℤ b) -ℤ (c *ℤ d)) ≤ k + k
 
--- numbers of at most 2^60, whose products are at most k, and k at most 2^98
-pub cross_terms : (a b c d : ℤ) (k : ℕ) → unsigned_abs a ≤ 1152921504606846976 → unsigned_abs b ≤ 1152921504606846976 → unsigned_abs c ≤ 1152921504606846976 → unsigned_abs d ≤ 1152921504606846976 →
-    unsigned_abs (a *ℤ b) ≤ k → unsigned_abs (c *ℤ d) ≤ k → k ≤ 316912650057057350374175801344 → CrossTerms a b c d k
+-- numbers of at most 2^70, whose products are at most k, and k at most 2^118
+pub cross_terms : (a b c d : ℤ) (k : ℕ) → unsigned_abs a ≤ 1180591620717411303424 → unsigned_abs b ≤ 1180591620717411303424 → unsigned_abs c ≤ 1180591620717411303424 → unsigned_abs d ≤ 1180591620717411303424 →
+    unsigned_abs (a *ℤ b) ≤ k → unsigned_abs (c *ℤ d) ≤ k → k ≤ 332306998946228968225951765070086144 → CrossTerms a b c d k
 cross_terms a b c d k pa pb pc pd pab pcd pk =
     let fa : FitsSigned w128 a = fits a (omega arith) in
     let fb : FitsSigned w128 b = fits b (omega arith) in
@@ -46,7 +46,7 @@ pub record SumTerms (s a b : ℤ) : Type 0 where
   pub sum_fits : FitsSigned w128 (held s +ℤ held (held a *ℤ held b))
   pub is : held (held s +ℤ held (held a *ℤ held b)) ≡ s +ℤ (a *ℤ b)
 
-pub sum_terms : (s a b : ℤ) (k : ℕ) → unsigned_abs s ≤ k → unsigned_abs a ≤ k → unsigned_abs b ≤ k → unsigned_abs (a *ℤ b) ≤ k → k ≤ 316912650057057350374175801344 → SumTerms s a b
+pub sum_terms : (s a b : ℤ) (k : ℕ) → unsigned_abs s ≤ k → unsigned_abs a ≤ k → unsigned_abs b ≤ k → unsigned_abs (a *ℤ b) ≤ k → k ≤ 332306998946228968225951765070086144 → SumTerms s a b
 sum_terms s a b k ps pa pb pab pk =
     let fs : FitsSigned w128 s = fits s (omega arith) in
     let fa : FitsSigned w128 a = fits a (omega arith) in
@@ -56,22 +56,22 @@ sum_terms s a b k ps pa pb pab pk =
     let all : FitsSigned w128 (s +ℤ (a *ℤ b)) = fits (s +ℤ (a *ℤ b)) (omega arith) in
     record { product_fits = simp to_z-of_z fab; sum_fits = simp to_z-of_z all; is = simp to_z-of_z refl }
 
-pub level_terms : (count times squares positions products : ℤ) → AreSmallSums count times squares positions products → CrossTerms positions squares times products 4951760157141521099596496896
+pub level_terms : (count times squares positions products : ℤ) → AreSmallSums count times squares positions products → CrossTerms positions squares times products 324518553658426726783156020576256
 level_terms count times squares positions products s =
-    cross_terms positions squares times products 4951760157141521099596496896 (omega (arith, s.positions_size)) (omega (arith, s.squares_size)) (omega (arith, s.times_size)) (omega (arith, s.products_size))
-    (product_most positions squares 1099511627776 4503599627370496 s.positions_size s.squares_size) (product_most times products 4294967296 1152921504606846976 s.times_size s.products_size) (omega arith)
+    cross_terms positions squares times products 324518553658426726783156020576256 (omega (arith, s.positions_size)) (omega (arith, s.squares_size)) (omega (arith, s.times_size)) (omega (arith, s.products_size))
+    (product_most positions squares 281474976710656 1152921504606846976 s.positions_size s.squares_size) (product_most times products 1099511627776 295147905179352825856 s.times_size s.products_size) (omega arith)
 
-pub slope_terms : (count times squares positions products : ℤ) → AreSmallSums count times squares positions products → CrossTerms count products times positions 4722366482869645213696
+pub slope_terms : (count times squares positions products : ℤ) → AreSmallSums count times squares positions products → CrossTerms count products times positions 309485009821345068724781056
 slope_terms count times squares positions products s =
-    cross_terms count products times positions 4722366482869645213696 (omega (arith, s.count_size)) (omega (arith, s.products_size)) (omega (arith, s.times_size)) (omega (arith, s.positions_size))
-    (product_most count products 4096 1152921504606846976 s.count_size s.products_size) (product_most times positions 4294967296 1099511627776 s.times_size s.positions_size) (omega arith)
+    cross_terms count products times positions 309485009821345068724781056 (omega (arith, s.count_size)) (omega (arith, s.products_size)) (omega (arith, s.times_size)) (omega (arith, s.positions_size))
+    (product_most count products 1048576 295147905179352825856 s.count_size s.products_size) (product_most times positions 1099511627776 281474976710656 s.times_size s.positions_size) (omega arith)
 
-pub scale_terms : (count times squares positions products : ℤ) → AreSmallSums count times squares positions products → CrossTerms count squares times times 18446744073709551616
+pub scale_terms : (count times squares positions products : ℤ) → AreSmallSums count times squares positions products → CrossTerms count squares times times 1208925819614629174706176
 scale_terms count times squares positions products s =
-    cross_terms count squares times times 18446744073709551616 (omega (arith, s.count_size)) (omega (arith, s.squares_size)) (omega (arith, s.times_size)) (omega (arith, s.times_size))
-    (product_most count squares 4096 4503599627370496 s.count_size s.squares_size) (product_most times times 4294967296 4294967296 s.times_size s.times_size) (omega arith)
+    cross_terms count squares times times 1208925819614629174706176 (omega (arith, s.count_size)) (omega (arith, s.squares_size)) (omega (arith, s.times_size)) (omega (arith, s.times_size))
+    (product_most count squares 1048576 1152921504606846976 s.count_size s.squares_size) (product_most times times 1099511627776 1099511627776 s.times_size s.times_size) (omega arith)
 
-pub small_line : (scale slope level : ℤ) → unsigned_abs scale ≤ 18446744073709551616 + 18446744073709551616 → unsigned_abs slope ≤ 4722366482869645213696 + 4722366482869645213696 → unsigned_abs level ≤ 4951760157141521099596496896 + 4951760157141521099596496896 → IsSmallLine scale slope level
+pub small_line : (scale slope level : ℤ) → unsigned_abs scale ≤ 1208925819614629174706176 + 1208925819614629174706176 → unsigned_abs slope ≤ 309485009821345068724781056 + 309485009821345068724781056 → unsigned_abs level ≤ 324518553658426726783156020576256 + 324518553658426726783156020576256 → IsSmallLine scale slope level
 small_line scale slope level p q r = record { scale_size = omega (arith, p); slope_size = omega (arith, q); level_size = omega (arith, r) }
 
 -- ---- the distance of a point
@@ -81,11 +81,11 @@ pub record DistanceTerms (level slope scale time position : ℤ) : Type 0 where
 
 pub distance_terms : (level slope scale time position : ℤ) → IsSmallLine scale slope level → IsSmallPoint time position → DistanceTerms level slope scale time position
 distance_terms level slope scale time position l p =
-    let rise : unsigned_abs (slope *ℤ time) ≤ 9903520314283042199192993792 = product_most slope time 9444732965739290427392 1048576 l.slope_size p.time_size in
-    let far : unsigned_abs (position *ℤ scale) ≤ 9903520314283042199192993792 = product_most position scale 268435456 36893488147419103232 p.position_size l.scale_size in
-    let high : unsigned_abs level ≤ 9903520314283042199192993792 = l.level_size in
-    let reached : unsigned_abs (level +ℤ (slope *ℤ time)) ≤ 9903520314283042199192993792 + 9903520314283042199192993792 = together level (slope *ℤ time) 9903520314283042199192993792 high rise in
-    let whole : unsigned_abs ((position *ℤ scale) -ℤ (level +ℤ (slope *ℤ time))) ≤ 19807040628566084398385987584 + 19807040628566084398385987584 = apart (position *ℤ scale) (level +ℤ (slope *ℤ time)) 19807040628566084398385987584 (omega arith) (omega arith) in
+    let rise : unsigned_abs (slope *ℤ time) ≤ 649037107316853453566312041152512 = product_most slope time 618970019642690137449562112 1048576 l.slope_size p.time_size in
+    let far : unsigned_abs (position *ℤ scale) ≤ 649037107316853453566312041152512 = product_most position scale 268435456 2417851639229258349412352 p.position_size l.scale_size in
+    let high : unsigned_abs level ≤ 649037107316853453566312041152512 = l.level_size in
+    let reached : unsigned_abs (level +ℤ (slope *ℤ time)) ≤ 649037107316853453566312041152512 + 649037107316853453566312041152512 = together level (slope *ℤ time) 649037107316853453566312041152512 high rise in
+    let whole : unsigned_abs ((position *ℤ scale) -ℤ (level +ℤ (slope *ℤ time))) ≤ 1298074214633706907132624082305024 + 1298074214633706907132624082305024 = apart (position *ℤ scale) (level +ℤ (slope *ℤ time)) 1298074214633706907132624082305024 (omega arith) (omega arith) in
     let f1 : FitsSigned w128 position = fits position (omega (arith, p.position_size)) in
     let f2 : FitsSigned w128 scale = fits scale (omega (arith, l.scale_size)) in
     let f3 : FitsSigned w128 level = fits level (omega arith) in
@@ -97,11 +97,11 @@ distance_terms level slope scale time position l p =
     let f9 : FitsSigned w128 ((position *ℤ scale) -ℤ (level +ℤ (slope *ℤ time))) = fits ((position *ℤ scale) -ℤ (level +ℤ (slope *ℤ time))) (omega arith) in
     record { fits = simp to_z-of_z f9; is = simp to_z-of_z refl }
 
-pub square_terms : (s t p : ℤ) → unsigned_abs s ≤ 2 ^ 52 → IsSmallPoint t p → SumTerms s t t
-square_terms s t p h q = sum_terms s t t 4503599627370496 h (omega (arith, q.time_size)) (omega (arith, q.time_size)) (let m = product_most t t 1048576 1048576 q.time_size q.time_size in omega (arith, m)) (omega arith)
+pub square_terms : (s t p : ℤ) → unsigned_abs s ≤ 2 ^ 60 → IsSmallPoint t p → SumTerms s t t
+square_terms s t p h q = sum_terms s t t 1152921504606846976 h (omega (arith, q.time_size)) (omega (arith, q.time_size)) (let m = product_most t t 1048576 1048576 q.time_size q.time_size in omega (arith, m)) (omega arith)
 
-pub product_terms : (s t p : ℤ) → unsigned_abs s ≤ 2 ^ 60 → IsSmallPoint t p → SumTerms s t p
-product_terms s t p h q = sum_terms s t p 1152921504606846976 h (omega (arith, q.time_size)) (omega (arith, q.position_size)) (let m = product_most t p 1048576 268435456 q.time_size q.position_size in omega (arith, m)) (omega arith)
+pub product_terms : (s t p : ℤ) → unsigned_abs s ≤ 2 ^ 68 → IsSmallPoint t p → SumTerms s t p
+product_terms s t p h q = sum_terms s t p 295147905179352825856 h (omega (arith, q.time_size)) (omega (arith, q.position_size)) (let m = product_most t p 1048576 268435456 q.time_size q.position_size in omega (arith, m)) (omega arith)
 
 -- ---- a point as code casts it
 pub held_time : (t p : ℤ) → IsSmallPoint t p → held t ≡ t

@@ -1,17 +1,16 @@
 -- Sums over points, one point after the other, and their sizes.
-use Rattle.std.proofs.Common.{◌≡◌, ℕ, ◌+◌, ◌*◌, ◌<◌, ◌≤◌, ◌^◌, ℤ, pos, neg_ℤ, ◌+ℤ◌, ◌-ℤ◌, ◌*ℤ◌, ◌≤ℤ◌, ◌<ℤ◌, List, [], ◌∷◌, ◌++◌, map, length, take, get_or, refl, sym, subst, ap, ◌∙◌, length-append, arith}
+use Rattle.std.proofs.Common.{◌≡◌, ℕ, ◌+◌, ◌*◌, ◌<◌, ◌≤◌, ◌^◌, ℤ, pos, neg_ℤ, ◌+ℤ◌, ◌-ℤ◌, ◌*ℤ◌, ◌≤ℤ◌, ◌<ℤ◌, List, [], ◌∷◌, ◌++◌, length, take, get_or, refl, sym, subst, ap, ◌∙◌, length-append, arith}
 use Rattle.std.specs.Prelude.{min}
 use Rattle.std.specs.Int.RustNames.{unsigned_abs}
 use Rattle.std.specs.List.{All}
-use Rattle.std.proofs.Math.Nat.{mul-le-mul}
 use Rattle.std.proofs.lemmas.Int.{ints}
-use Rattle.std.proofs.lemmas.List.{get_or-map, length-map, length-take, take_more, get_or_read}
+use Rattle.std.proofs.lemmas.List.{get_or-map, length-map, length-take, take_more}
 use Rattle.std.proofs.lemmas.List.Elements.{All-head, All-map, All-tail, All-take}
 use Prim.Native.Nat.{zero, suc}
 use Rattle.sky_math.proofs.Order.{product_most}
 use Rattle.sky_math.specs.Quadratics.{Point}
 use Rattle.sky_units.proofs.Between.{offset_same}
-use Rattle.sky_units.specs.Arcs.{IsArc}
+use Rattle.sky_units.specs.Arcs.{HaveRisingEpochs, IsArc}
 use Rattle.sky_units.specs.Motion.{offset, point_from, points}
 use Rattle.sky_units.specs.SpotData.{SpotData}
 use Rattle.sky_units.specs.declared.axis.Axis.{Axis}
@@ -62,8 +61,8 @@ total_size f b (x ∷ rest) h =
         let e : suc n * b ≡ b + n * b = omega arith in
         rw e (added u v b (n * b) p q)
 
--- at most 4,096 points that are small have small sums
-pub small_sums : (xs : List Point) (n t tt y ty : ℤ) → length xs ≤ 4096 → All (λ x. IsSmallPoint x.time x.position) xs → AreSumsOf n t tt y ty xs → AreSmallSums n t tt y ty
+-- at most 2^20 points that are small have small sums
+pub small_sums : (xs : List Point) (n t tt y ty : ℤ) → length xs ≤ 1048576 → All (λ x. IsSmallPoint x.time x.position) xs → AreSumsOf n t tt y ty xs → AreSmallSums n t tt y ty
 small_sums xs n t tt y ty few each so =
     let a = total_size (λ x. x.time) 1048576 xs (λ k d l. (each k d l).time_size) in
     let b = total_size (λ x. x.time *ℤ x.time) 1099511627776 xs (λ k d l. product_most (get_or xs k d).time (get_or xs k d).time 1048576 1048576 (each k d l).time_size (each k d l).time_size) in
@@ -77,7 +76,7 @@ small_sums xs n t tt y ty few each so =
       products_size = let s = so.products_is in rw s (omega arith);
     }
   where
-    sized_count : (k : ℕ) (n : ℤ) → k ≤ 4096 → n ≡ pos k → unsigned_abs n ≤ 2 ^ 12
+    sized_count : (k : ℕ) (n : ℤ) → k ≤ 1048576 → n ≡ pos k → unsigned_abs n ≤ 2 ^ 20
     sized_count k n h e = omega (arith, ints)
 
 -- ---- the points of an arc of one day are small
@@ -128,12 +127,35 @@ point_read axis (a ∷ rest) first spot k d ef h e =
     subst (λ (u : SpotData). get_or (points axis (a ∷ rest)) k d ≡ point_from axis u spot) (sym f)
     (get_or-map (point_from axis a) (a ∷ rest) k spot d h ∙ ap (point_from axis a) (sym e))
 
+-- rising epochs rise by one tick at least from each spot to the next
+climb : (spots : List SpotData) (d : SpotData) (k : ℕ) → HaveRisingEpochs spots → k < length spots → (pos k +ℤ (get_or spots 0 d).epoch) ≤ℤ (get_or spots k d).epoch
+climb spots d zero rise h = omega (arith, ints)
+climb spots d (suc k) rise h =
+    let before = climb spots d k rise (omega arith) in
+    let step = rise k (suc k) d (omega arith) h in
+    omega (arith, ints, before, step)
+
+-- so there are few within one day
+pub few_of_day : (spots : List SpotData) → HaveRisingEpochs spots → AreOfOneDay spots → length spots ≤ 1048576
+few_of_day [] rise day = omega arith
+few_of_day (a ∷ []) rise day = omega arith
+few_of_day (a ∷ b ∷ rest) rise day =
+    let spots : List SpotData = a ∷ b ∷ rest in
+    let last : ℕ = suc (length rest) in
+    let high = climb spots a last rise (omega arith) in
+    let near = day 0 last a (omega arith) (omega arith) in
+    counted (length rest) a.epoch (get_or spots last a).epoch high near
+  where
+    counted : (n : ℕ) (x y : ℤ) → (pos (suc n) +ℤ x) ≤ℤ y → (y -ℤ x) ≤ℤ pos 1000000 → suc (suc n) ≤ 1048576
+    counted n x y h k = omega (arith, ints)
+
 -- the sums over the first points of an arc are small
-pub sums_taken : (axis : Axis) (spots : List SpotData) (i : ℕ) (n t tt y ty : ℤ) → length spots ≤ 4096 → IsArc spots → AreOfOneDay spots → AreSumsOf n t tt y ty (take i (points axis spots)) → AreSmallSums n t tt y ty
-sums_taken axis spots i n t tt y ty few arc day so =
+pub sums_taken : (axis : Axis) (spots : List SpotData) (i : ℕ) (n t tt y ty : ℤ) → IsArc spots → AreOfOneDay spots → AreSumsOf n t tt y ty (take i (points axis spots)) → AreSmallSums n t tt y ty
+sums_taken axis spots i n t tt y ty arc day so =
+    let few = few_of_day spots arc.rising day in
     let k = points_length axis spots in
     let l = length-take i (points axis spots) in
     small_sums (take i (points axis spots)) n t tt y ty (at_most i (length (points axis spots)) (length (take i (points axis spots))) l (omega (arith, k, few))) (All-take (λ x. IsSmallPoint x.time x.position) i (points axis spots) (points_small axis spots arc day)) so
   where
-    at_most : (i n k : ℕ) → k ≡ min i n → n ≤ 4096 → k ≤ 4096
+    at_most : (i n k : ℕ) → k ≡ min i n → n ≤ 1048576 → k ≤ 1048576
     at_most i n k e h = rw e (omega arith)

@@ -1,7 +1,8 @@
--- The purge of a group: while it lies on no line, the spot that lies farthest from the least-squares lines is dropped.
-use Rattle.std.specs.Prelude.{if◌then◌else◌, ℕ, Bool, List, [], ◌∷◌, Option, Some, None, length, map, max, nat_lt, remove, slice_get}
+-- The purge of a group, which is a list of places of spots: while they lie on no line, the spot that lies farthest from the least-squares lines is dropped.
+use Rattle.std.specs.Prelude.{if◌then◌else◌, ℕ, List, [], ◌∷◌, Option, Some, None, length, map, max, nat_lt, remove}
 use Rattle.std.specs.Int.RustNames.{unsigned_abs}
-use Rattle.std.specs.List.{filter_map, list_all}
+use Rattle.std.specs.List.{list_all}
+use Rattle.sky_units.specs.AtPlaces.{spots_at}
 use Rattle.sky_units.specs.Motion.{point_from, points}
 use Rattle.sky_units.specs.SettingsData.{SettingsData}
 use Rattle.sky_units.specs.SpotData.{SpotData}
@@ -33,17 +34,14 @@ last_greatest (x ∷ rest) = if list_all (λ y. nat_lt y x) rest then 0 else suc
 abbrev pub worst : List SpotData → ℕ
 worst spots = last_greatest (deviations spots)
 
--- what is left of at most n spots: nothing where they are fewer than two, all where they lie on a line, else what is left without the worst one
-abbrev pub purged : SettingsData → ℕ → List SpotData → Option (List SpotData)
-purged settings zero spots = None
-purged settings (suc n) spots =
-    if nat_lt (length spots) 2 then None
-    else (if lies_on_line settings.purge_tol settings.rate_ra settings.rate_dec spots then Some spots else purged settings n (remove spots (worst spots)))
+-- what is left of at most n places of spots: nothing where they are fewer than two, all where their spots lie on a line, else what is left without
+-- the worst one
+abbrev pub purged : SettingsData → ℕ → List SpotData → List ℕ → Option (List ℕ)
+purged settings zero spots places = None
+purged settings (suc n) spots places =
+    if nat_lt (length places) 2 then None
+    else (if lies_on_line settings.purge_tol settings.rate_ra settings.rate_dec (spots_at spots places) then Some places else purged settings n spots (remove places (worst (spots_at spots places))))
 
--- what is left of the spots of a group
-abbrev pub purge_of : SettingsData → List SpotData → Option (List SpotData)
-purge_of settings spots = purged settings (length spots) spots
-
--- the spots at some places
-abbrev pub spots_at : List SpotData → List ℕ → List SpotData
-spots_at spots places = filter_map (slice_get spots) places
+-- the places that are left of a group
+abbrev pub purge_of : SettingsData → List SpotData → List ℕ → Option (List ℕ)
+purge_of settings spots group = purged settings (length group) spots group

@@ -21,10 +21,9 @@ struct Candidate {
 
 /// The place of the worst spot: the one with the greatest absolute residual from the least-squares
 /// lines of position over time. The greater of the two axes counts; of equal ones the latest is taken.
-/// The spots are an arc within one day, two at least and 4,096 at most.
+/// The spots are two or more, an arc within one day.
 pub fn worst(spots: &[Spot]) -> usize
     requires two { 2 ≤ length spots.now }
-    requires few { length spots.now ≤ 4096 }
     requires arc { IsArc spots.now }
     requires day { AreOfOneDay spots.now }
     ensures { result ≡ worst spots.now }
@@ -58,9 +57,17 @@ fn worse(one: Candidate, later: Candidate) -> Candidate
 fn deviation_from(ra: SquaresLine, dec: SquaresLine, first: &Spot, spot: &Spot) -> u128
     requires ra { IsSmallLine ra.scale ra.slope ra.level }
     requires dec { IsSmallLine dec.scale dec.slope dec.level }
-    requires ra_point { IsSmallPoint (spot.now.epoch -ℤ first.now.epoch) (offset Axis.Ra first.now spot.now) }
-    requires dec_point { IsSmallPoint (spot.now.epoch -ℤ first.now.epoch) (offset Axis.Dec first.now spot.now) }
-    ensures { result ≡ max (unsigned_abs ((offset Axis.Ra first.now spot.now *ℤ ra.scale) -ℤ (ra.level +ℤ (ra.slope *ℤ (spot.now.epoch -ℤ first.now.epoch))))) (unsigned_abs ((offset Axis.Dec first.now spot.now *ℤ dec.scale) -ℤ (dec.level +ℤ (dec.slope *ℤ (spot.now.epoch -ℤ first.now.epoch))))) }
+    requires ra_point { IsSmallPoint (spot.now.epoch -ℤ first.now.epoch)
+        (offset Axis.Ra first.now spot.now) }
+    requires dec_point { IsSmallPoint (spot.now.epoch -ℤ first.now.epoch)
+        (offset Axis.Dec first.now spot.now) }
+    ensures { result ≡ max
+        (unsigned_abs
+        ((offset Axis.Ra first.now spot.now *ℤ ra.scale) -ℤ
+        (ra.level +ℤ (ra.slope *ℤ (spot.now.epoch -ℤ first.now.epoch)))))
+        (unsigned_abs
+        ((offset Axis.Dec first.now spot.now *ℤ dec.scale) -ℤ
+        (dec.level +ℤ (dec.slope *ℤ (spot.now.epoch -ℤ first.now.epoch))))) }
 {
     let time = time_from(first, spot);
     let on_ra = distance_from(ra, time, offset(Axis::Ra, first, spot) as i128);
@@ -78,7 +85,6 @@ fn time_from(first: &Spot, spot: &Spot) -> i128
 /// The least-squares line of spots on an axis, counted from the first of them.
 fn least_squares(axis: Axis, spots: &[Spot]) -> SquaresLine
     requires some { 0 < length spots.now }
-    requires few { length spots.now ≤ 4096 }
     requires arc { IsArc spots.now }
     requires day { AreOfOneDay spots.now }
     ensures level { result.level ≡ (line_over (points axis spots.now)).p }

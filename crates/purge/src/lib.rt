@@ -5,7 +5,7 @@
 //! axes, so nothing is rounded.
 #![tactic(auto)]
 
-pub use dropping::purge;
+pub use dropping::{purge, purge_places};
 pub use farthest::worst;
 pub use laws::residuals_are_scaled;
 

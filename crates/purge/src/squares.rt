@@ -61,7 +61,8 @@ pub fn with_point(sums: Sums, time: i128, position: i128) -> Sums
 /// The least-squares line of points by their sums.
 pub fn line_of(sums: Sums) -> SquaresLine
     requires { AreSmallSums sums.count sums.times sums.squares sums.positions sums.products }
-    ensures level { result.level ≡ (sums.positions *ℤ sums.squares) -ℤ (sums.times *ℤ sums.products) }
+    ensures level { result.level ≡
+        (sums.positions *ℤ sums.squares) -ℤ (sums.times *ℤ sums.products) }
     ensures slope { result.slope ≡ (sums.count *ℤ sums.products) -ℤ (sums.times *ℤ sums.positions) }
     ensures scale { result.scale ≡ (sums.count *ℤ sums.squares) -ℤ (sums.times *ℤ sums.times) }
     ensures size { IsSmallLine result.scale result.slope result.level }
@@ -77,7 +78,8 @@ pub fn line_of(sums: Sums) -> SquaresLine
 pub fn distance_from(line: SquaresLine, time: i128, position: i128) -> u128
     requires line { IsSmallLine line.scale line.slope line.level }
     requires point { IsSmallPoint time position }
-    ensures { result ≡ unsigned_abs ((position *ℤ line.scale) -ℤ (line.level +ℤ (line.slope *ℤ time))) }
+    ensures { result ≡ unsigned_abs
+        ((position *ℤ line.scale) -ℤ (line.level +ℤ (line.slope *ℤ time))) }
 {
     (position * line.scale - (line.level + line.slope * time)).unsigned_abs()
 }

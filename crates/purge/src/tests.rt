@@ -1,6 +1,6 @@
 //! The purge of a few detections.
 
-ghost use Rattle.std.specs.Prelude.{◌≤◌, IsTrue, length};
+ghost use Rattle.std.specs.Prelude.{IsTrue};
 ghost use Rattle.sky_units.specs.Arcs.{HaveRisingEpochs, IsArc};
 ghost use Rattle.line_fit.specs.Slopes.{AreOfOneDay};
 
@@ -39,7 +39,6 @@ fn purge_all(
     spots: &[Spot],
     settings: &Settings,
 ) -> Result<Option<Tracklet>, NoMemory>
-    requires few { length spots.now ≤ 4096 }
     requires arc { IsArc spots.now }
     requires day { AreOfOneDay spots.now }
 {
@@ -50,23 +49,26 @@ fn purge_all(
     purge(alloc, spots, &group, settings)
 }
 
-/// Whether a tracklet has spots of these numbers.
-fn has_numbers(tracklet: &Tracklet, numbers: &[u32]) -> bool {
-    let spots = tracklet.spots();
-    if spots.len() != numbers.len() {
-        return false;
+/// The numbers of what is left of the group of all the spots: none where nothing is.
+fn numbers_left(alloc: Global, spots: &[Spot]) -> Result<Vec<u32>, NoMemory> {
+    let mut numbers = Vec::new(alloc);
+    if !is_arc(spots) {
+        return Ok(numbers);
     }
-    for i in 0..spots.len() {
-        let spot = &spots[i];
-        if i < numbers.len() && spot.num != numbers[i] {
-            return false;
+    if !are_of_one_day(spots) {
+        return Ok(numbers);
+    }
+    if let Some(left) = purge_all(alloc, spots, &Settings::standard())? {
+        for spot in left.spots() {
+            numbers.push(spot.num)?;
         }
     }
-    true
+    Ok(numbers)
 }
 
 #[test]
 fn third_of_four_is_dropped(rt: HostRuntime) -> Result<(), Fail> {
+    residuals_are_scaled();
     let spots = [
         spot(0, 59_000_250_000, 10_000_000),
         spot(1, 59_000_260_000, 10_001_000),
@@ -76,8 +78,34 @@ fn third_of_four_is_dropped(rt: HostRuntime) -> Result<(), Fail> {
     assert!(rt; is_arc(&spots));
     assert!(rt; are_of_one_day(&spots));
     assert_eq!(rt; worst(&spots), 2);
-    residuals_are_scaled();
-    let left = purge_all(rt.alloc(), &spots, &Settings::standard())?;
-    assert!(rt; left.is_some_and(|tracklet| has_numbers(&tracklet, &[0, 1, 3])));
+    let left = numbers_left(rt.alloc(), &spots)?;
+    assert_eq!(rt; left.as_slice(), [0, 1, 3].as_slice());
+    Ok(())
+}
+
+/// All four lie equally far from their line, so the last one is dropped.
+#[test]
+fn latest_of_a_tie_is_dropped(rt: HostRuntime) -> Result<(), Fail> {
+    let spots = [
+        spot(0, 59_000_250_000, 10_000_500),
+        spot(1, 59_000_260_000, 10_000_000),
+        spot(2, 59_000_270_000, 10_000_000),
+        spot(3, 59_000_280_000, 10_000_500),
+    ];
+    let left = numbers_left(rt.alloc(), &spots)?;
+    assert_eq!(rt; left.as_slice(), [0, 1, 2].as_slice());
+    Ok(())
+}
+
+/// The middle one is dropped first. The two that are left exceed the greatest rate.
+#[test]
+fn nothing_is_left_of_two_too_fast(rt: HostRuntime) -> Result<(), Fail> {
+    let spots = [
+        spot(0, 59_000_250_000, 10_000_000),
+        spot(1, 59_000_260_000, 10_050_000),
+        spot(2, 59_000_270_000, 10_020_000),
+    ];
+    let left = numbers_left(rt.alloc(), &spots)?;
+    assert_eq!(rt; left.len(), 0);
     Ok(())
 }

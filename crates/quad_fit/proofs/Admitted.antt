@@ -1,6 +1,6 @@
 -- An axis admits points exactly where some coefficient is left once the interval of the acceleration is narrowed by all triples.
 use Rattle.std.proofs.Common.{◌≡◌, ◌<◌, ℤ, pos, ◌*ℤ◌, ◌≤ℤ◌, ◌↔◌, List, length, refl, arith}
-use Rattle.std.specs.Prelude.{Option, Some, None, MatchOption, IsTrue, is_some, []}
+use Rattle.std.specs.Prelude.{Option, Some, None, IsTrue, is_some, []}
 use Rattle.std.proofs.lemmas.Bool.{false≢true}
 use borrow.Author.Differences.{same_in, product_is}
 use Rattle.sky_math.proofs.Coefficients.{admits_of_suits, suits_all_of_passes}
@@ -9,17 +9,11 @@ use Rattle.sky_math.specs.Lists.{EachThree}
 use Rattle.sky_math.specs.Quadratics.{Point, IsWithin, Admits}
 use Rattle.sky_math.specs.Triples.{Suits}
 use Rattle.quad_fit.proofs.Intervals.{Interval, Holds, HoldsExactly, IsFilled, IsNarrowed}
-use Rattle.quad_fit.specs.Curves.{quadratic_of}
-use Rattle.quad_fit.specs.Levels.{IsLevel}
 use Rattle.quad_fit.specs.MarkRanges.{RiseInTime}
-use Rattle.quad_fit.specs.declared.levelling.Levelled.{Levelled}
 
--- a filled interval holds its own lower end, and its upper end
+-- a filled interval holds its own lower end
 pub holds_low : (r : Interval) → IsFilled r → Holds r r.low.num r.low.den
 holds_low r f = (omega (arith, linear), f.0)
-
-pub holds_high : (r : Interval) → IsFilled r → Holds r r.high.num r.high.den
-holds_high r f = (f.0, omega (arith, linear))
 
 pub admitted_exactly : (acc tol : ℤ) (xs : List Point) (limit : Interval) (result : Option Interval) → pos 0 ≤ℤ tol → RiseInTime xs →
     HoldsExactly (λ a b. IsWithin (acc *ℤ b) (pos 2000000000000 *ℤ a)) limit → IsNarrowed limit (λ a b. EachThree (Suits tol a b) xs) result → IsTrue (is_some result) ↔ Admits acc tol xs
@@ -29,11 +23,6 @@ admitted_exactly acc tol xs limit (Some r) t rise exact n =
     let low = (n.1 r.low.num r.low.den n.0.1).0 (holds_low r n.0) in
     let within = (exact r.low.num r.low.den n.0.1).0 low.0 in
     (λ h. admits_of_suits acc tol r.low.num r.low.den xs t n.0.1 within rise low.1, λ w. refl)
-
--- where the levelling ended it told whether the points are admitted
-pub level_told : (acc tol : ℤ) (xs : List Point) (result : Option Levelled) → MatchOption result (¬ Admits acc tol xs) (IsLevel acc tol xs) → IsTrue (is_some result) ↔ Admits acc tol xs
-level_told acc tol xs None n = (λ h. absurd (false≢true h), λ w. absurd (n w))
-level_told acc tol xs (Some l) is = (λ h. (quadratic_of l.curve, is.admitted, is.passes), λ w. refl)
 
 -- fewer than two points are admitted
 pub few_admitted : (acc tol : ℤ) (xs : List Point) → pos 0 ≤ℤ acc → pos 0 ≤ℤ tol → length xs < 2 → Admits acc tol xs

@@ -9,12 +9,6 @@ use Rattle.quad_fit.specs.declared.references.Pair.{Pair}
 use Rattle.quad_fit.specs.declared.references.Triple.{Triple}
 use Rattle.quad_fit.proofs.NewtonForm.{residual_is}
 
-pub signed_up : (x : ℤ) → signed true x ≡ x
-signed_up x = refl
-
-pub signed_down : (x : ℤ) → signed false x ≡ neg_ℤ x
-signed_down x = refl
-
 zero_right : (x : ℤ) → x *ℤ pos 0 ≡ pos 0
 zero_right x = same_in _ _ (omega (arith, product_is x (pos 0)))
 
@@ -102,9 +96,6 @@ levelled_of tol up t l s v q d f g el es ev eq ed ef eg =
     }
 
 -- ---- two points
-line_sum : (y0 y l d : ℤ) → (((y0 +ℤ l) *ℤ d) +ℤ (((y -ℤ y0) -ℤ (l +ℤ l)) *ℤ d)) -ℤ (y *ℤ d) ≡ neg_ℤ (l *ℤ d)
-line_sum y0 y l d = middle_sum y0 y l d
-
 line_end : (s v d f g t y y0 tol : ℤ) → g ≡ t → t -ℤ f ≡ d → s ≡ (y0 +ℤ tol) *ℤ d → v ≡ (y -ℤ y0) -ℤ (tol +ℤ tol) → newton s v (pos 0) d f g t y ≡ neg_ℤ (tol *ℤ d)
 line_end s v d f g t y y0 tol eg ed es ev =
     let z = none_left (pos 0) (t -ℤ g) (omega (arith, linear)) in

@@ -26,7 +26,7 @@ same_spot : (spots : List SpotData) (x y : SpotData) (i j : ℕ) → get_or spot
 same_spot spots x y i j ex jl ey e = sym ex ∙ ap (λ (n : ℕ). get_or spots n x) e ∙ get_or_default spots j x y jl ∙ ey
 
 -- between each two spots of an arc, in either order, less time passes than an arc may last
-within_time : (spots : List SpotData) (x y : SpotData) → IsArc spots → Contains spots x → Contains spots y → (y.epoch -ℤ x.epoch) <ℤ arc_ticks
+pub within_time : (spots : List SpotData) (x y : SpotData) → IsArc spots → Contains spots x → Contains spots y → (y.epoch -ℤ x.epoch) <ℤ arc_ticks
 within_time spots x y arc cx cy =
     let i : ℕ = cx.0 in
     let j : ℕ = cy.0 in

@@ -18,19 +18,19 @@ held n = to_z w64 (of_z w64 n)
 abbrev pub held_wide : ℤ → ℤ
 held_wide n = to_z w128 (of_z w128 n)
 
-small : (a : ℤ) (m : ℕ) → unsigned_abs a ≤ m → m ≤ 9000000000000000000 → FitsSigned w64 a
+pub small : (a : ℤ) (m : ℕ) → unsigned_abs a ≤ m → m ≤ 9000000000000000000 → FitsSigned w64 a
 small a m p q = omega (arith, ints)
 
-wide : (a : ℤ) (m : ℕ) → unsigned_abs a ≤ m → m ≤ 10 ^ 33 → FitsSigned w128 a
+pub wide : (a : ℤ) (m : ℕ) → unsigned_abs a ≤ m → m ≤ 10 ^ 33 → FitsSigned w128 a
 wide a m p q = omega (arith, ints)
 
-sum_most : (a b : ℤ) (m n : ℕ) → unsigned_abs a ≤ m → unsigned_abs b ≤ n → unsigned_abs (a +ℤ b) ≤ m + n
+pub sum_most : (a b : ℤ) (m n : ℕ) → unsigned_abs a ≤ m → unsigned_abs b ≤ n → unsigned_abs (a +ℤ b) ≤ m + n
 sum_most a b m n p q = omega (arith, ints)
 
-difference_most : (a b : ℤ) (m n : ℕ) → unsigned_abs a ≤ m → unsigned_abs b ≤ n → unsigned_abs (a -ℤ b) ≤ m + n
+pub difference_most : (a b : ℤ) (m n : ℕ) → unsigned_abs a ≤ m → unsigned_abs b ≤ n → unsigned_abs (a -ℤ b) ≤ m + n
 difference_most a b m n p q = omega (arith, ints)
 
-den_most : (d : ℤ) → IsBetween (pos 1) (pos (10 ^ 22)) d → unsigned_abs d ≤ 10 ^ 22
+pub den_most : (d : ℤ) → IsBetween (pos 1) (pos (10 ^ 22)) d → unsigned_abs d ≤ 10 ^ 22
 den_most d h = omega (arith, ints)
 
 -- ---- the residual of a curve at a mark

@@ -1,11 +1,13 @@
 -- What holds of every quadratic test, for the crates that stand on it.
-use Rattle.std.specs.Prelude.{ℤ, pos, ◌≤ℤ◌, ◌<ℤ◌, ◌⊎◌, List, [], ◌∷◌}
+use Rattle.std.specs.Prelude.{◌≤◌, ℤ, pos, ◌≤ℤ◌, ◌<ℤ◌, ◌⊎◌, List, [], ◌∷◌, length}
 use Rattle.std.specs.List.{All, Contains}
 use Rattle.sky_math.specs.Lists.{EachThree}
 use Rattle.sky_units.specs.Arcs.{IsArc}
 use Rattle.sky_units.specs.Coefficients.{HasCoefficient}
 use Rattle.sky_units.specs.Motion.{AxisAdmits, Fits}
-use Rattle.sky_units.specs.SettingsData.{SettingsData}
+use Rattle.sky_units.specs.QuadData.{IsQuad, QuadData}
+use Rattle.sky_units.specs.Reported.{IsReported}
+use Rattle.sky_units.specs.SettingsData.{AreSettings, SettingsData}
 use Rattle.sky_units.specs.SpotData.{SpotData}
 use Rattle.sky_units.specs.declared.axis.Axis.{Axis}
 
@@ -20,3 +22,8 @@ ThreeSuffice = (axis : Axis) (tol a b : ℤ) (spots : List SpotData) → IsArc s
 -- each arc fits or doesn't: whole numbers alone decide it
 abbrev pub FitIsDecided : Type 0
 FitIsDecided = (settings : SettingsData) (spots : List SpotData) → IsArc spots → Fits settings spots ⊎ (¬ Fits settings spots)
+
+-- spots of an arc, two or more, that an axis admits have a reported quadratic, whose numbers keep their ranges
+abbrev pub ReportedExists : Type 0
+ReportedExists = (axis : Axis) (settings : SettingsData) (spots : List SpotData) → AreSettings settings → IsArc spots → 2 ≤ length spots → AxisAdmits axis settings spots →
+    (quad : QuadData) × IsReported axis settings spots quad × IsQuad quad.den quad.p quad.v quad.q

@@ -1,3 +1,4 @@
+//! Curves of time, in Newton's form.
 ghost use Rattle.std.specs.Prelude.{◌≡◌, ◌≤◌, ◌^◌, pos, IsTrue, ◌↔◌};
 ghost use Rattle.std.specs.Int.RustNames.{unsigned_abs};
 ghost use Rattle.sky_math.specs.Quadratics.{residual, IsAdmitted};
@@ -24,16 +25,30 @@ impl Model for Curve {
 
     ghost Value = { CurveData };
 
-    ghost view = { λ c. record { start = c.start; slope = c.slope; bend = c.bend; den = c.den; first = c.first; second = c.second } };
+    ghost view = { λ c. record {
+      start = c.start;
+      slope = c.slope;
+      bend = c.bend;
+      den = c.den;
+      first = c.first;
+      second = c.second;
+    } };
 
     ghost invariant = { λ c. IsCurve c.start c.slope c.bend c.den c.first c.second };
 
-    ghost inverse = { λ c. record { start = c.start; slope = c.slope; bend = c.bend; den = c.den; first = c.first; second = c.second } };
+    ghost inverse = { λ c. record {
+      start = c.start;
+      slope = c.slope;
+      bend = c.bend;
+      den = c.den;
+      first = c.first;
+      second = c.second;
+    } };
 }
 
 /// What a greatest acceleration, in 10^-6 degree per day squared, is divided by to give the
 /// greatest leading coefficient: twice the squared ticks of a day.
-const ACCELERATION_SCALE: i128 = 2_000_000_000_000;
+pub const ACCELERATION_SCALE: i128 = 2_000_000_000_000;
 
 impl Curve {
     /// How far the curve lies above a mark, times its denominator.

@@ -1,3 +1,4 @@
+//! The exchange of one mark of a reference for one that its curve misses.
 ghost use Rattle.std.specs.Prelude.{◌≡◌, pos, ◌≤ℤ◌, ℤ, List, MatchOption, None};
 ghost use Rattle.std.specs.List.{All};
 ghost use Rattle.sky_math.specs.Quadratics.{Point, Passes};
@@ -29,7 +30,8 @@ const GROSS: u128 = 8;
 /// outside; None where there are none.
 pub fn farthest(marks: &Marks, curve: &Curve, tol: i64) -> Option<Outside>
     requires { IsBetween (pos 0) (pos 100000) tol }
-    ensures { MatchOption result (All (Passes tol (quadratic_of curve.now)) marks.now) (IsOutsideOf tol curve.now marks.now) }
+    ensures { MatchOption result (All (Passes tol (quadratic_of curve.now)) marks.now)
+        (IsOutsideOf tol curve.now marks.now) }
 {
     let within = (tol as i128 * curve.den).unsigned_abs();
     let mut found = None;
@@ -75,7 +77,11 @@ fn distance_of(found: &Option<Outside>) -> u128
 /// The exchange of one of three marks for one outside their levelled curve, so that the three ask
 /// for more bend; None where no quadratic passes all four.
 pub fn exchange(triple: &Triple, outside: &Outside, up: bool) -> Option<Triple>
-    ensures { (tol : ℤ) (curve : CurveData) (points : List Point) → pos 0 ≤ℤ tol → AreMarks points → IsTripleOf points triple.now → IsLevelled tol up triple.now curve → IsOutsideOf tol curve points outside.now → MatchOption result (NonePasses tol points) (λ t. IsTripleOf points t × AsksMoreBend tol up curve t) }
+    ensures { (tol : ℤ) (curve : CurveData) (points : List Point) → pos 0 ≤ℤ tol →
+        AreMarks points → IsTripleOf points triple.now → IsLevelled tol up triple.now curve →
+        IsOutsideOf tol curve points outside.now →
+        MatchOption result (NonePasses tol points) (λ t. IsTripleOf points t ×
+        AsksMoreBend tol up curve t) }
 {
     let mark = outside.mark;
     let Triple {
@@ -122,7 +128,10 @@ pub enum Exchanged {
 /// The exchange of one of two marks for one outside their level line: two that ask for more slope,
 /// or the three where the line lies on either side of them by turns, so that they ask for a bend.
 pub fn exchange_in_pair(pair: &Pair, outside: &Outside) -> Exchanged
-    ensures { (tol : ℤ) (line : CurveData) (points : List Point) → pos 0 ≤ℤ tol → AreMarks points → IsPairOf points pair.now → IsLevelLine tol pair.now line → IsOutsideOf tol line points outside.now → IsExchanged tol line points outside.now.above result }
+    ensures { (tol : ℤ) (line : CurveData) (points : List Point) → pos 0 ≤ℤ tol → AreMarks points →
+        IsPairOf points pair.now → IsLevelLine tol pair.now line →
+        IsOutsideOf tol line points outside.now →
+        IsExchanged tol line points outside.now.above result }
 {
     let mark = outside.mark;
     let Pair { first, last } = *pair;

@@ -1,4 +1,5 @@
-ghost use Rattle.quad_fit.specs.Laws.{FitIsDecided, PartsAreAdmitted, ThreeSuffice};
+//! What holds of every quadratic test.
+ghost use Rattle.quad_fit.specs.Laws.{FitIsDecided, PartsAreAdmitted, ReportedExists, ThreeSuffice};
 
 /// A law: what an axis admits of an arc, it admits of each part of it.
 pub fn parts_are_admitted()
@@ -15,4 +16,10 @@ pub fn three_suffice()
 /// numbers, so a proof elsewhere can go by cases on it.
 pub fn fit_is_decided()
     ensures { FitIsDecided }
+{}
+
+/// A law: spots of an arc, two or more, that an axis admits have a reported quadratic, and its
+/// numbers keep the ranges of `Quad`.
+pub fn reported_exists()
+    ensures { ReportedExists }
 {}

@@ -1,7 +1,8 @@
+//! The exchange, from a reference to where it ends.
 ghost use Rattle.std.specs.Prelude.{◌≤◌, ◌≤ℤ◌, ◌<ℤ◌, pos, length, MatchOption};
 ghost use Rattle.sky_math.specs.Quadratics.{Admits};
 ghost use Rattle.sky_units.specs.Ranges.{IsBetween};
-ghost use Rattle.quad_fit.specs.Levels.{IsLevel, IsExtreme, IsBent};
+ghost use Rattle.quad_fit.specs.Levels.{IsLevel, IsExtreme, IsBent, RestsOn};
 ghost use Rattle.quad_fit.specs.MarkRanges.{AreMarks};
 ghost use Rattle.quad_fit.specs.References.{IsPairOf, IsTripleOf, NonePasses};
 
@@ -38,6 +39,20 @@ pub fn level(marks: &Marks, acc: i64, tol: i64) -> Option<Levelled>
         last: marks.at(marks.len() - 1),
     };
     level_pair(marks, &ends, acc, tol)
+}
+
+/// `level` from a curve on that rests on some of the marks.
+pub fn level_from(marks: &Marks, start: &Levelled, acc: i64, tol: i64) -> Option<Levelled>
+    requires acc { IsBetween (pos 0) (pos 1000000) acc }
+    requires tol { IsBetween (pos 0) (pos 100000) tol }
+    requires marks { AreMarks marks.now }
+    requires rests { RestsOn tol marks.now start.now.curve start.now.reference }
+    ensures { MatchOption result (¬ Admits acc tol marks.now) (IsLevel acc tol marks.now) }
+{
+    match start.reference {
+        Reference::Pair(pair) => level_pair(marks, &pair, acc, tol),
+        Reference::Triple(triple, up) => level_triple(marks, &triple, up, acc, tol),
+    }
 }
 
 /// `level` from the line through two of the marks on.

@@ -8,19 +8,35 @@
 //! one of the reference, so that the signs still alternate and the new reference asks for more.
 //! The exchange ends where no point is outside, where the curve passes the greatest acceleration,
 //! or where four points alternate so that no quadratic passes them.
+//!
+//! So a curve at which it ends is of the least acceleration, and at that acceleration of the least
+//! rate: its coefficients, counted from the middle epoch and the first position and divided by
+//! their greatest common divisor, are the quadratic that a report tells.
 #![tactic(auto)]
 
 pub use fitting::{fits, fits_joined};
-pub use laws::{fit_is_decided, parts_are_admitted, three_suffice};
+pub use growing::{Basis, fits_basis, fits_grown};
+pub use laws::{fit_is_decided, parts_are_admitted, reported_exists, three_suffice};
+pub use passing::passes;
 pub use range::acc_range;
+pub use reporting::{reported, reported_from};
+pub use single::axis_admits;
 
+#[cfg(test)]
+mod comparison_tests;
 mod curves;
 mod exchange;
 mod fitting;
+mod growing;
 mod laws;
 mod levelling;
 mod marks;
+mod passing;
 mod range;
 mod references;
+mod reporting;
+#[cfg(test)]
+mod reporting_tests;
+mod single;
 #[cfg(test)]
 mod tests;

@@ -1,13 +1,12 @@
+//! Marks: spots on one axis, counted from a base.
 ghost use Rattle.std.specs.Prelude.{◌≡◌, ◌<◌, ◌++◌, length, map, slice_index_or};
-ghost use Rattle.std.specs.List.{Contains};
-ghost use Rattle.sky_units.specs.Arcs.{IsArc};
 ghost use Rattle.sky_units.specs.Motion.{point_from};
 ghost use Rattle.quad_fit.specs.MarkRanges.{IsMarkPoint, AreMarks};
 
 use sky_units::{Axis, Spot, joined_len, joined_spot, offset};
 use std::marker::Model;
 
-/// A spot on one axis: its time and position counted from those of a base, a spot of its arc.
+/// A spot on one axis: its time and position counted from those of a base.
 #[derive(Clone, Copy)]
 pub struct Mark {
     /// In ticks: less than 30,000,000 either way.
@@ -49,7 +48,8 @@ impl<'a> Model for Marks<'a> {
 
     ghost view = { λ m. map (point_from m.axis m.base) (m.a.now ++ m.b.now ++ m.c.now) };
 
-    ghost invariant = { λ m. AreMarks (map (point_from m.axis m.base) (m.a.now ++ m.b.now ++ m.c.now)) };
+    ghost invariant = { λ m. AreMarks
+        (map (point_from m.axis m.base) (m.a.now ++ m.b.now ++ m.c.now)) };
 }
 
 impl<'a> Marks<'a> {
@@ -81,7 +81,7 @@ fn mark_of(axis: Axis, base: &Spot, spot: &Spot) -> Mark
     }
 }
 
-/// The spots of three slices on one axis, counted from a base among them.
+/// The spots of three slices on one axis, counted from a base near them.
 pub fn marks_of<'a>(
     a: &'a [Spot],
     b: &'a [Spot],
@@ -89,10 +89,8 @@ pub fn marks_of<'a>(
     axis: Axis,
     base: Spot,
 ) -> Marks<'a>
-    requires arc { IsArc (a.now ++ b.now ++ c.now) }
-    requires base { Contains (a.now ++ b.now ++ c.now) base }
-    ensures value { result ≡ map (point_from axis base) (a.now ++ b.now ++ c.now) }
-    ensures marks { AreMarks result }
+    requires { AreMarks (map (point_from axis base) (a.now ++ b.now ++ c.now)) }
+    ensures { result ≡ map (point_from axis base) (a.now ++ b.now ++ c.now) }
 {
     Marks {
         a,

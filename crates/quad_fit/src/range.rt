@@ -1,3 +1,4 @@
+//! The range of the leading coefficients.
 ghost use Rattle.std.specs.Prelude.{◌≡◌, ◌≤◌, pos, length, MatchOption};
 ghost use Rattle.sky_units.specs.Arcs.{IsArc};
 ghost use Rattle.sky_units.specs.Coefficients.{NoCoefficient, IsCoefficientRange};
@@ -19,7 +20,8 @@ pub fn acc_range(spots: &[Spot], axis: Axis, tol: i64) -> Option<(Frac, Frac)>
     requires arc { IsArc spots.now }
     requires three { 3 ≤ length spots.now }
     requires tol { IsBetween (pos 0) (pos 100000) tol }
-    ensures { MatchOption result (NoCoefficient axis tol spots.now) (λ range. IsCoefficientRange axis tol spots.now range.0 range.1) }
+    ensures { MatchOption result (NoCoefficient axis tol spots.now)
+        (λ range. IsCoefficientRange axis tol spots.now range.0 range.1) }
 {
     let marks = marks_of(spots, &[], &[], axis, spots[0]);
     let start = spread_triple(&marks);

@@ -1,3 +1,4 @@
+//! References, and the curves that are levelled on them.
 ghost use Rattle.std.specs.Prelude.{◌≡◌, ◌≤◌, ◌*◌, ◌^◌, pos, ◌+ℤ◌, ◌-ℤ◌, ◌*ℤ◌, ◌<ℤ◌, neg_ℤ};
 ghost use Rattle.std.specs.Int.RustNames.{unsigned_abs};
 ghost use Rattle.sky_math.specs.Triples.{bend, slack, stretch};
@@ -104,7 +105,8 @@ fn slope_of(x: Mark, y: Mark, z: Mark, lean: i64) -> i128
     requires before { x.time <ℤ y.time }
     requires after { y.time <ℤ z.time }
     requires brief { (z.time -ℤ x.time) <ℤ arc_ticks }
-    ensures value { result ≡ ((y.position -ℤ x.position) -ℤ (lean +ℤ lean)) *ℤ ((z.time -ℤ y.time) *ℤ (z.time -ℤ x.time)) }
+    ensures value { result ≡ ((y.position -ℤ x.position) -ℤ (lean +ℤ lean)) *ℤ
+        ((z.time -ℤ y.time) *ℤ (z.time -ℤ x.time)) }
     ensures size { unsigned_abs result ≤ 2 * 10 ^ 23 }
 {
     rise_of(x, y, lean) as i128 * ((z.time - y.time) * (z.time - x.time)) as i128

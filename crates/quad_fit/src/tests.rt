@@ -1,3 +1,4 @@
+//! Each public function, called on plain values.
 use crate::{acc_range, fits, fits_joined};
 use sky_units::{Axis, Settings, Spot, Tally, is_arc, is_arc_joined};
 use std::process::Abort;

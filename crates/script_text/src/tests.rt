@@ -1,42 +1,42 @@
-//! Lines of each kind.
+//! What lines of each kind say.
 use super::*;
-use miti_text::LineError;
+use std::process::Abort;
+use std::test::Fail;
 
-#[test]
-fn commands_and_lines(rt: HostRuntime) {
-    let read = |line: &[u8]| read_script_line(rt.alloc(), line);
-    assert!(rt; matches!(read(b"# a comment"), Ok(Line::Blank)));
-    assert!(rt;
-        matches!(
-            read(b"!window 59000 59015"),
-            Ok(Line::Window(59_000, 59_015))
-        )
-    );
-    assert!(rt; matches!(read(b"!tracklets -1"), Ok(Line::Tracklets(-1))));
-    assert!(rt; matches!(read(b"!report"), Ok(Line::Report)));
-    assert!(rt; matches!(read(b"!stats"), Ok(Line::Stats)));
-    let name = match read(b"!set tol_ra 5") {
-        Ok(Line::Set(name, 5)) => Some(name),
-        _ => None,
-    };
-    assert_eq!(rt;
-        name.as_ref().map(|name| name.bytes()),
-        Some(b"tol_ra".as_slice())
-    );
-    assert!(rt;
-        matches!(
-            read(b"a 59001.25 10 5 20"),
-            Ok(Line::Bad(LineError::Fields))
-        )
-    );
-    assert!(rt; matches!(read(b"a 59001.25 10 5 20 568 o"), Ok(Line::Detection(_))));
+/// Reads each line, and compares what it says.
+fn expect(rt: &(impl Abort + AllocGlobal), table: &[(&str, &str)]) -> Result<(), Fail> {
+    for (line, said) in table {
+        let answer = read_script_line(rt.alloc(), line.as_bytes());
+        let text = format!(in rt.alloc(); "{answer:?}")?;
+        assert!(rt; text.as_str() == *said, "{line}");
+    }
+    Ok(())
 }
 
 #[test]
-fn malformed_commands(rt: HostRuntime) {
-    let read = |line: &[u8]| read_script_line(rt.alloc(), line);
-    assert!(rt; matches!(read(b"!foo"), Err(ScriptError::Command)));
-    assert!(rt; matches!(read(b"!report now"), Err(ScriptError::Words)));
-    assert!(rt; matches!(read(b"!window a 5"), Err(ScriptError::Number)));
-    assert!(rt; matches!(read(b"!set tol_ra 1.5"), Err(ScriptError::Number)));
+fn lines_and_commands(rt: HostRuntime) -> Result<(), Fail> {
+    let table = [
+        ("# a comment", "Ok(Blank)"),
+        ("a 59001.25 10 5 20", "Ok(Bad(Fields))"),
+        ("!set a -5", "Ok(Set(Word { bytes: [97] }, -5))"),
+        ("!window 59000 59015", "Ok(Window(59000, 59015))"),
+        ("!tracklets -1", "Ok(Tracklets(-1))"),
+        ("!report", "Ok(Report)"),
+        ("!stats", "Ok(Stats)"),
+    ];
+    expect(&rt, &table)?;
+    let detection = read_script_line(rt.alloc(), b"a 59001.25 10 5 20 568 o");
+    assert!(rt; matches!(detection, Ok(Line::Detection(_))));
+    Ok(())
+}
+
+#[test]
+fn malformed_commands(rt: HostRuntime) -> Result<(), Fail> {
+    let table = [
+        ("!foo", "Err(Command)"),
+        ("!report now", "Err(Words)"),
+        ("!window a 5", "Err(Number)"),
+        ("!set tol_ra 1.5", "Err(Number)"),
+    ];
+    expect(&rt, &table)
 }

@@ -1,9 +1,14 @@
+pub mod Bases
 pub mod Between
+pub mod Divisors
 pub mod EpochOrder
 pub mod Fractions
 pub mod PairExamples
+pub mod Origins
 pub mod Parts
 pub mod Reaches
+pub mod ReportedOnce
 pub mod RisingLists
+pub mod SpotsAtPlaces
 pub mod Spread
 pub mod Turning

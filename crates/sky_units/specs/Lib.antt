@@ -1,11 +1,15 @@
 pub mod Arcs
+pub mod AtPlaces
 pub mod Coefficients
 pub mod Faults
 pub mod FracData
+pub mod Laws
 pub mod Limits
 pub mod Motion
 pub mod Pairs
+pub mod QuadData
 pub mod Ranges
+pub mod Reported
 pub mod SettingNames
 pub mod SettingRanges
 pub mod SettingsData

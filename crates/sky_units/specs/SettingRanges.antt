@@ -22,7 +22,7 @@ highest LineTol = pos 100000
 highest PurgeTol = pos 100000
 highest PairGap = pos 1000000
 highest NightShift = pos 999999
-highest Stages = pos 1
+highest Stages = pos 3
 
 -- a value that a setting may have
 abbrev pub IsInRange : Setting → ℤ → Type 0

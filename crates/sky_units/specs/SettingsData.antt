@@ -59,5 +59,5 @@ standard_settings = record {
   purge_tol = pos 200;
   pair_gap = pos 62500;
   night_shift = pos 0;
-  stages = pos 1;
+  stages = pos 3;
 }

@@ -21,7 +21,8 @@ struct Reach {
 /// The first two spots, in the order of their places, that break the spread rule: the axis on which
 /// they are too far apart, right ascension first, and their numbers. None where the rule holds.
 pub fn spread_fault(spots: &[Spot]) -> Option<(Axis, u32, u32)>
-    ensures { MatchOption result (MeetSpreadRule spots.now) (λ fault. IsFirstFault spots.now fault.0 fault.1 fault.2) }
+    ensures { MatchOption result (MeetSpreadRule spots.now)
+        (λ fault. IsFirstFault spots.now fault.0 fault.1 fault.2) }
 {
     for i in 0..spots.len() {
         let one = &spots[i];
@@ -70,7 +71,8 @@ pub fn rise(a: &[Spot], b: &[Spot], c: &[Spot]) -> bool
 
 /// The axis on which two spots are too far apart, right ascension first.
 fn apart_on(a: &Spot, b: &Spot) -> Option<Axis>
-    ensures { MatchOption result (AreNear Axis.Ra a.now b.now × AreNear Axis.Dec a.now b.now) (λ axis. AreApart axis a.now b.now) }
+    ensures { MatchOption result (AreNear Axis.Ra a.now b.now ×
+        AreNear Axis.Dec a.now b.now) (λ axis. AreApart axis a.now b.now) }
 {
     if !are_near(Axis::Ra, a, b) {
         return Some(Axis::Ra);

@@ -29,6 +29,20 @@ impl Places {
         }
     }
 
+    /// The places of a list, none of them copied.
+    pub fn of(items: Vec<u32>) -> Places
+        ensures { result ≡ items.items }
+    {
+        Places { items }
+    }
+
+    /// The list of the places, none of them copied.
+    pub fn into_items(self) -> Vec<u32>
+        ensures { result.items ≡ self }
+    {
+        self.items
+    }
+
     /// Adds a place at the end.
     pub fn push(&mut self, item: u32) -> Result<(), NoMemory>
         ensures ok { OnOk result (self.new ≡ self.old ++ item ∷ []) }

@@ -1,8 +1,8 @@
 //! Angles, arcs, tracklets, settings and lists, on plain values.
 use crate::{
-    Axis, Frac, Groups, Places, Report, SetError, Settings, Spot, Track, TrackSet, Tracklet,
-    Tracks, Word, Words, is_arc, is_arc_joined, joined_len, joined_spot, lift, offset,
-    spread_fault,
+    Axis, Frac, Groups, Places, Quad, Report, SetError, Settings, Spot, Track, TrackSet, Tracklet,
+    Tracks, Word, Words, is_arc, is_arc_joined, joined_len, joined_spot, lift,
+    lifted_differences_agree, offset, origin_is_free, reported_is_unique, spots_at, spread_fault,
 };
 use std::cmp::Ordering;
 use std::test::Fail;
@@ -90,7 +90,20 @@ fn tracklets_that_overlap_in_time(rt: HostRuntime) -> Result<(), Fail> {
 }
 
 #[test]
+fn spots_at_their_places(rt: HostRuntime) -> Result<(), Fail> {
+    let spots = [spot(7, 0, 0), spot(8, 1, 0), spot(9, 2, 0)];
+    let found = spots_at(rt.alloc(), &spots, &[2, 0])?;
+    assert_eq!(rt; found.len(), 2);
+    assert_eq!(rt; found[0].num, 9);
+    assert_eq!(rt; found[1].num, 7);
+    Ok(())
+}
+
+#[test]
 fn right_ascensions_lifted_over_zero(rt: HostRuntime) {
+    lifted_differences_agree();
+    origin_is_free();
+    reported_is_unique();
     assert_eq!(rt; lift(359_990_000, 10_000), 360_010_000);
     assert_eq!(rt; lift(10_000, 359_990_000), -10_000);
     assert_eq!(rt; lift(10_000_000, 20_000_000), 20_000_000);
@@ -105,6 +118,8 @@ fn lists_keep_what_is_pushed(rt: HostRuntime) -> Result<(), Fail> {
     places.push(7)?;
     places.push(0)?;
     assert_eq!(rt; places.items(), [7, 0].as_slice());
+    let again = Places::of(places.into_items());
+    assert_eq!(rt; again.items(), [7, 0].as_slice());
     let mut groups = Groups::new(rt.alloc());
     let mut words = Words::new(rt.alloc());
     words.push(Word::new(rt.alloc(), b"seventeen_bytes_x")?)?;
@@ -137,6 +152,7 @@ fn settings_by_name(rt: HostRuntime) -> Result<(), Fail> {
     }
     assert_eq!(rt; settings.set(b"tolerance", 5), Err(SetError::Name));
     assert_eq!(rt; settings.set(b"tol_ra", 100_001), Err(SetError::Range));
+    assert_eq!(rt; settings.set(b"stages", 4), Err(SetError::Range));
     assert_eq!(rt; settings.tol_ra, 1);
     assert_eq!(rt; settings.rate_dec, 1);
     Ok(())
@@ -147,7 +163,20 @@ fn a_report_of_one_track(rt: HostRuntime) -> Result<(), Fail> {
     let mut ids = Words::new(rt.alloc());
     ids.push(Word::new(rt.alloc(), b"a1")?)?;
     let mut tracks = Tracks::new(rt.alloc());
-    tracks.push(Track { nights: 3, ids })?;
+    let ra = Quad {
+        base: 10_000_000,
+        start: 59_001_260_000,
+        den: 1,
+        p: 0,
+        v: 0,
+        q: 0,
+    };
+    tracks.push(Track {
+        nights: 3,
+        ids,
+        ra,
+        dec: ra,
+    })?;
     let report = Report {
         window: Some((59_000, 59_015)),
         tracks,

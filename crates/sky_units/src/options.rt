@@ -27,7 +27,7 @@ pub struct Settings {
     pub pair_gap: i64,
     /// What is added to an epoch before its night is counted, in ticks: 0 to 999,999.
     pub night_shift: i64,
-    /// Which steps make tracklets: 1 pairs alone, so far the only stage.
+    /// Which steps make tracklets: 1 pairs alone, 2 pairs collapsed into groups, 3 groups purged too.
     pub stages: i64,
 }
 
@@ -36,9 +36,12 @@ impl Model for Settings {
 
     ghost Value = { SettingsData };
 
-    ghost view = { λ s. settings_data s.tol_ra s.tol_dec s.acc_ra s.acc_dec s.rate_ra s.rate_dec s.line_tol s.purge_tol s.pair_gap s.night_shift s.stages };
+    ghost view = { λ s. settings_data s.tol_ra s.tol_dec s.acc_ra s.acc_dec s.rate_ra s.rate_dec
+        s.line_tol s.purge_tol s.pair_gap s.night_shift s.stages };
 
-    ghost invariant = { λ s. AreSettings (settings_data s.tol_ra s.tol_dec s.acc_ra s.acc_dec s.rate_ra s.rate_dec s.line_tol s.purge_tol s.pair_gap s.night_shift s.stages) };
+    ghost invariant = { λ s. AreSettings
+        (settings_data s.tol_ra s.tol_dec s.acc_ra s.acc_dec s.rate_ra s.rate_dec s.line_tol
+        s.purge_tol s.pair_gap s.night_shift s.stages) };
 
     ghost inverse = { λ s. record {
       tol_ra = s.tol_ra;
@@ -71,7 +74,7 @@ impl Settings {
             purge_tol: 200,
             pair_gap: 62_500,
             night_shift: 0,
-            stages: 1,
+            stages: 3,
         }
     }
 }

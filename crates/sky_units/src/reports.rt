@@ -1,17 +1,22 @@
 //! Tracks and reports as they are told.
 ghost use Rattle.std.specs.Prelude.{◌≡◌, ◌++◌, ◌∷◌, [], OnOk, OnErr};
 
-use crate::{NoMemory, Words};
+use crate::{NoMemory, Quad, Words};
 use std::alloc::Global;
 use std::marker::Model;
 
-/// A track: how many nights have a tracklet of it, and the ids of its detections in canonical order.
+/// A track: how many nights have a tracklet of it, the ids of its detections in canonical order, and
+/// the reported quadratic on each axis.
 #[derive(Debug, Drop)]
 pub struct Track {
     /// The number of nights.
     pub nights: u32,
     /// The ids of the detections.
     pub ids: Words,
+    /// Its motion in right ascension.
+    pub ra: Quad,
+    /// Its motion in declination.
+    pub dec: Quad,
 }
 
 /// A list of tracks.

@@ -40,7 +40,8 @@ impl Settings {
     /// Changes the setting of this name. `Name` comes where there is none of this name, and
     /// otherwise `Range` where the value lies outside its range; nothing is changed then.
     pub fn set(&mut self, name: &[u8], value: i64) -> Result<(), SetError>
-        ensures { MatchResult (set_named name.now value self.old) (λ settings. IsOk result × (self.new ≡ settings)) (λ error. (result ≡ Err error) × (self.new ≡ self.old)) }
+        ensures { MatchResult (set_named name.now value self.old) (λ settings. IsOk result ×
+            (self.new ≡ settings)) (λ error. (result ≡ Err error) × (self.new ≡ self.old)) }
     {
         let Some(setting) = named(name) else {
             return Err(SetError::Name);
@@ -96,7 +97,7 @@ fn range(setting: Setting) -> (i64, i64)
         Setting::RateRa | Setting::RateDec => (0, 10_000_000),
         Setting::PairGap => (1, 1_000_000),
         Setting::NightShift => (0, 999_999),
-        Setting::Stages => (1, 1),
+        Setting::Stages => (1, 3),
     }
 }
 

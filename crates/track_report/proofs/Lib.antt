@@ -1,2 +1,11 @@
 pub mod Joined
 pub mod Numbered
+pub mod Parting
+pub mod ToldQuads
+pub mod NextWords
+pub mod ValidTracks
+pub mod NextTracks
+pub mod Heads
+pub mod Divisors
+pub mod Counts
+pub mod NumberTexts

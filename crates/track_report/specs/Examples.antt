@@ -1,5 +1,5 @@
 -- Worked examples: the texts of replies, by computing.
-use Rattle.std.specs.Prelude.{◌≡◌, ℕ, List, [], ◌∷◌, codes, Some, None, pos, neg_ℤ, refl}
+use Rattle.std.specs.Prelude.{◌≡◌, ℕ, List, [], ◌∷◌, ◌++◌, ◌*◌, ◌^◌, codes, Some, None, pos, neg_ℤ, refl}
 use Rattle.std.specs.Fmt.{digits}
 use Rattle.exposure_log.specs.declared.errors.AddError.{AddError}
 use Rattle.exposure_log.specs.declared.errors.AddError.TheVariants as adds
@@ -8,7 +8,7 @@ use Rattle.miti_text.specs.declared.errors.LineError.TheVariants as lines
 use Rattle.script_text.specs.declared.errors.ScriptError.TheVariants as scripts
 use Rattle.sky_units.specs.declared.reports.Track.{Track}
 use Rattle.sky_units.specs.declared.setting_names.SetError.TheVariants as settings
-use Rattle.track_report.specs.ReportText.{report_text}
+use Rattle.track_report.specs.ReportText.{quad_line, report_text}
 use Rattle.track_report.specs.Texts.{text_of}
 use Rattle.track_report.specs.declared.replies.Reply.TheVariants as replies
 
@@ -54,16 +54,32 @@ tracklets = (refl, refl)
 
 -- three nights with two detections each
 abbrev track : Track
-track = record { nights = 3; ids = codes "a1" ∷ codes "a2" ∷ codes "b1" ∷ codes "b2" ∷ codes "c1" ∷ codes "c2" ∷ [] }
+track = record {
+  nights = 3;
+  ids = codes "a1" ∷ codes "a2" ∷ codes "b1" ∷ codes "b2" ∷ codes "c1" ∷ codes "c2" ∷ [];
+  ra = record { base = pos 10000000; start = pos 59001260000; den = pos 10100; p = pos 1020100000; v = pos 1007; q = pos 0 };
+  dec = record { base = pos 5000000; start = pos 59001260000; den = pos 10100; p = pos 0; v = neg_ℤ (pos 3); q = pos 0 };
+}
+
+-- the lines of its quadratics and of its ids
+abbrev rest_of_track : List ℕ
+rest_of_track =
+    codes "ra 10000000 59001260000 10100 1020100000 1007 0\ndec 5000000 59001260000 10100 0 -3 0\nids a1 a2 b1 b2 c1 c2\n"
 
 reports : (report_text (record { window = None; tracks = [] }) ≡ codes "report - - 0\n")
     × (report_text (record { window = Some (pos 59000, pos 59015); tracks = [] }) ≡ codes "report 59000 59015 0\n")
     × (report_text (record { window = Some (pos 59000, pos 59015); tracks = track ∷ [] })
-    ≡ codes "report 59000 59015 1\ntrack 1 3 6\nids a1 a2 b1 b2 c1 c2\n")
+    ≡ codes "report 59000 59015 1\ntrack 1 3 6\n" ++ rest_of_track)
     × (report_text (record { window = Some (neg_ℤ (pos 2), pos 0); tracks = track ∷ track ∷ [] })
-    ≡ codes "report -2 0 2\ntrack 1 3 6\nids a1 a2 b1 b2 c1 c2\ntrack 2 3 6\nids a1 a2 b1 b2 c1 c2\n")
+    ≡ codes "report -2 0 2\ntrack 1 3 6\n" ++ rest_of_track ++ codes "track 2 3 6\n" ++ rest_of_track)
 unfolding digits
 reports = (refl, refl, refl, refl)
+
+-- the greatest numbers of a quadratic
+greatest : quad_line (codes "ra") (record { base = pos 359999999; start = pos 200000000000; den = pos (21 * 10 ^ 28); p = neg_ℤ (pos (63 * 10 ^ 36)); v = pos (14 * 10 ^ 29); q = neg_ℤ (pos (11 * 10 ^ 22)) })
+    ≡ codes "ra 359999999 200000000000 210000000000000000000000000000 -63000000000000000000000000000000000000 1400000000000000000000000000000 -110000000000000000000000\n"
+unfolding digits
+greatest = refl
 
 statistics : text_of (replies.Stats (record { exposures = 6; detections = 60; tracklets = 3; tracks = 1 })) ≡ codes "stats 6 60 3 1\n"
 unfolding digits

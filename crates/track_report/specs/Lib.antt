@@ -1,4 +1,5 @@
 pub mod Words
+pub mod Reading
 pub mod Names
 pub mod ReportText
 pub mod Texts

@@ -104,7 +104,8 @@ fn write_refused_line(text: &mut Vec<u8>, number: u64, name: &[u8]) -> Result<()
 
 /// Adds the line of an exposure that was added.
 fn write_added(text: &mut Vec<u8>, epoch: i64, site: &Word, count: u32) -> Result<(), NoMemory>
-    ensures { OnOk result (text.new.items ≡ text.old.items ++ text_of (Reply.Added epoch site.now count)) }
+    ensures { OnOk result (text.new.items ≡ text.old.items
+        ++ text_of (Reply.Added epoch site.now count)) }
 {
     text.extend_from_slice(b"exposure")?;
     write_number(text, epoch)?;
@@ -123,7 +124,8 @@ fn write_refused(
     error: AddError,
     id: &Word,
 ) -> Result<(), NoMemory>
-    ensures { OnOk result (text.new.items ≡ text.old.items ++ text_of (Reply.Refused epoch site.now error id.now)) }
+    ensures { OnOk result (text.new.items ≡ text.old.items
+        ++ text_of (Reply.Refused epoch site.now error id.now)) }
 {
     text.extend_from_slice(b"exposure")?;
     write_number(text, epoch)?;
@@ -136,7 +138,8 @@ fn write_refused(
 
 /// Adds the name of why an exposure isn't taken, and the id where `Id` is the cause.
 fn write_add_error(text: &mut Vec<u8>, error: AddError, id: &Word) -> Result<(), NoMemory>
-    ensures { OnOk result (text.new.items ≡ text.old.items ++ flat_map spaced (add_error_words error id.now)) }
+    ensures { OnOk result (text.new.items ≡ text.old.items
+        ++ flat_map spaced (add_error_words error id.now)) }
 {
     write_word(text, add_error_name(error))?;
     match error {
@@ -189,7 +192,8 @@ fn write_window_refused(text: &mut Vec<u8>, error: WindowError) -> Result<(), No
 
 /// Adds the line of a night's tracklets, and one for each tracklet.
 fn write_tracklets(text: &mut Vec<u8>, night: i64, tracklets: &Groups) -> Result<(), NoMemory>
-    ensures { OnOk result (text.new.items ≡ text.old.items ++ text_of (Reply.Tracklets night tracklets.now)) }
+    ensures { OnOk result (text.new.items ≡ text.old.items
+        ++ text_of (Reply.Tracklets night tracklets.now)) }
 {
     text.extend_from_slice(b"tracklets")?;
     write_number(text, night)?;

@@ -3,7 +3,7 @@ use super::*;
 use exposure_log::{AddError, WindowError};
 use miti_text::LineError;
 use script_text::ScriptError;
-use sky_units::{Groups, NoMemory, Report, SetError, Stats, Track, Tracks, Word, Words};
+use sky_units::{Groups, NoMemory, Quad, Report, SetError, Stats, Track, Tracks, Word, Words};
 use std::alloc::Global;
 
 /// The epoch of the exposures.
@@ -20,10 +20,29 @@ fn words(alloc: Global, text: &str) -> Result<Words, NoMemory> {
 
 /// A report of one track, of three nights with two detections each.
 fn three_nights(alloc: Global) -> Result<Report, NoMemory> {
+    let ra = Quad {
+        base: 10_000_000,
+        start: 59_001_260_000,
+        den: 1,
+        p: 102,
+        v: 101,
+        q: 0,
+    };
+    let dec = Quad {
+        base: 5_000_000,
+        start: 59_001_260_000,
+        den: 1,
+        p: 0,
+        v: 0,
+        q: 3,
+    };
+    let ids = words(alloc, "a1 a2 b1 b2 c1 c2")?;
     let mut tracks = Tracks::new(alloc);
     tracks.push(Track {
         nights: 3,
-        ids: words(alloc, "a1 a2 b1 b2 c1 c2")?,
+        ids,
+        ra,
+        dec,
     })?;
     Ok(Report {
         window: Some((59_000, 59_015)),
@@ -31,9 +50,11 @@ fn three_nights(alloc: Global) -> Result<Report, NoMemory> {
     })
 }
 
-/// Whether the reply's text is this one.
+/// Whether this text is what the reply adds to an empty one.
 fn reads(alloc: Global, reply: Reply, text: &str) -> Result<bool, NoMemory> {
-    Ok(write_reply(alloc, &reply)?.as_slice() == text.as_bytes())
+    let mut added = Vec::new(alloc);
+    append_reply(&mut added, &reply)?;
+    Ok(added.as_slice() == text.as_bytes())
 }
 
 #[test]
@@ -154,7 +175,10 @@ fn tracklets_and_reports(rt: HostRuntime) -> Result<(), NoMemory> {
     tracklets.push(words(rt.alloc(), "b1 b2 b3")?)?;
     let listed = "tracklets 59000 2\ntracklet a1 a2\ntracklet b1 b2 b3\n";
     assert!(rt; reads(rt.alloc(), Reply::Tracklets(59_000, tracklets), listed)?);
-    let text = b"report 59000 59015 1\ntrack 1 3 6\nids a1 a2 b1 b2 c1 c2\n".as_slice();
+    let text = b"report 59000 59015 1\ntrack 1 3 6\n\
+        ra 10000000 59001260000 1 102 101 0\n\
+        dec 5000000 59001260000 1 0 0 3\nids a1 a2 b1 b2 c1 c2\n"
+        .as_slice();
     let report = three_nights(rt.alloc())?;
     assert_eq!(rt; write_report(rt.alloc(), &report)?.as_slice(), text);
     let reply = Reply::Report(report);

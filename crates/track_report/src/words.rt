@@ -25,7 +25,8 @@ pub fn write_line(text: &mut Vec<u8>, first: &[u8], words: &Words) -> Result<(),
 
 /// Adds words, each behind a space, and ends the line.
 fn write_rest(text: &mut Vec<u8>, words: &Words) -> Result<(), NoMemory>
-    ensures { OnOk result (text.new.items ≡ text.old.items ++ flat_map spaced words.now ++ codes "\n") }
+    ensures { OnOk result (text.new.items ≡ text.old.items ++ flat_map spaced words.now
+        ++ codes "\n") }
 {
     for word in words.items() {
         write_word(text, word.bytes())?;

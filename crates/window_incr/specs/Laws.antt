@@ -2,6 +2,7 @@
 use Rattle.std.specs.Prelude.{◌≡◌, ◌↔◌, map}
 use Rattle.std.specs.List.{Contains}
 use Rattle.miti_text.specs.Observation.{Observation}
+use Rattle.sky_units.specs.SettingsData.{AreSettings}
 use Rattle.sky_units.specs.declared.reports.Report.{Report}
 use Rattle.sky_units.specs.declared.statistics.Stats.{Stats}
 use Rattle.exposure_log.specs.Held.{LogData, detections_of}
@@ -31,9 +32,9 @@ ReportFollows = (s t : LinkerState) (one other : Report) → IsSoundState s → 
 abbrev pub StatsAreUnique : Type 0
 StatsAreUnique = (s : LinkerState) (one other : Stats) → AreStats s one → AreStats s other → one ≡ other
 
--- each sound state has a report
+-- each sound state has a report, where its settings lie in their ranges
 abbrev pub ReportExists : Type 0
-ReportExists = (s : LinkerState) → IsSoundState s → (report : Report) × IsReport s report
+ReportExists = (s : LinkerState) → IsSoundState s → AreSettings s.settings → (report : Report) × IsReport s report
 
 -- and statistics
 abbrev pub StatsExist : Type 0

@@ -1,16 +1,11 @@
 -- The linker's state, and what a setting does to it.
 use Rattle.std.specs.Prelude.{is_some, Result, Ok, Err, if◌then◌else◌, List, ℕ, ℤ}
-use Rattle.exposure_log.specs.Held.{LogData}
 use Rattle.night_tree.specs.Nights.{NightData}
 use Rattle.sky_units.specs.SettingsData.{SettingsData}
+pub use Rattle.kept_nights.specs.LinkerState.{LinkerState}
 use Rattle.sky_units.specs.SettingNames.{set_named}
 use Rattle.sky_units.specs.declared.setting_names.SetError.{SetError}
 use Rattle.sky_units.specs.declared.setting_names.SetError.TheVariants.{Late}
-
--- the settings, and the log of held exposures with its window
-pub record LinkerState : Type 0 where
-  pub settings : SettingsData
-  pub log : LogData
 
 -- a linker: its state, and the nights that it keeps
 pub record LinkerData : Type 0 where

@@ -1,13 +1,22 @@
 //! Tracklets and tracks as they are answered: by the ids of their detections.
-ghost use Rattle.std.specs.Prelude.{◌≡◌, ◌<◌, ◌^◌, ◌++◌, OnOk, IfOk, length, map};
+ghost use Rattle.std.specs.Prelude.{◌≡◌, ◌≤◌, ◌++◌, OnOk, IfOk, length, map};
 ghost use Rattle.std.specs.List.{All};
-ghost use Rattle.window_incr.specs.Answers.{track_of as track_of_set, ids_of, id_of_number};
+ghost use Rattle.sky_units.specs.Arcs.{IsArc};
+ghost use Rattle.sky_units.specs.Motion.{AxisAdmits};
+ghost use Rattle.sky_units.specs.Reported.{IsReported};
+ghost use Rattle.sky_units.specs.TrackletData.{spots_of};
+ghost use Rattle.miti_text.specs.ValidReports.{IsValidQuad};
+ghost use Rattle.window_incr.specs.Answers.{AreTracksOf, CanBeTold, HasValidQuads, IsPosition, IsTrackOf, ids_of, id_of_number};
 
 use exposure_log::ExposureLog;
-use sky_units::{Groups, NoMemory, Spot, Track, TrackSet, Tracklet, Tracks, Word, Words};
+use quad_fit::reported;
+use sky_units::{
+    Axis, Groups, NoMemory, Quad, Settings, Spot, Track, TrackSet, Tracklet, Tracks, Word, Words,
+};
 use std::alloc::Global;
 
 /// The ids of each of some tracklets.
+#[tactic(auto, using(crate::proofs::Steps::map_one_more))]
 pub(crate) fn groups_of(
     alloc: Global,
     log: &ExposureLog,
@@ -28,34 +37,75 @@ pub(crate) fn groups_of(
 pub(crate) fn tracks_of(
     alloc: Global,
     log: &ExposureLog,
+    settings: &Settings,
     sets: &[TrackSet],
 ) -> Result<Tracks, NoMemory>
-    requires few { All (λ set. length set < 2 ^ 32) sets.now }
-    ensures { IfOk result (λ tracks. tracks ≡ map (track_of_set log.now) sets.now) }
+    requires told { All (CanBeTold settings.now) sets.now }
+    ensures tracks { IfOk result (AreTracksOf
+        (record { settings = settings.now; log = log.now }) sets.now) }
+    ensures valid { IfOk result (All HasValidQuads) }
 {
     let mut tracks = Tracks::new(alloc);
     for set in sets {
-        tracks.push(track_of(alloc, log, set)?)?;
+        tracks.push(track_of(alloc, log, settings, set)?)?;
     }
     Ok(tracks)
 }
 
 /// A set of tracklets as a track.
-fn track_of(alloc: Global, log: &ExposureLog, set: &TrackSet) -> Result<Track, NoMemory>
-    requires few { length set.now < 2 ^ 32 }
-    ensures { IfOk result (λ track. track ≡ track_of_set log.now set.now) }
+fn track_of(
+    alloc: Global,
+    log: &ExposureLog,
+    settings: &Settings,
+    set: &TrackSet,
+) -> Result<Track, NoMemory>
+    requires told { CanBeTold settings.now set.now }
+    ensures track { IfOk result (IsTrackOf
+        (record { settings = settings.now; log = log.now }) set.now) }
+    ensures valid { IfOk result HasValidQuads }
 {
+    let spots = spots_of(alloc, set)?;
     let mut ids = Words::new(alloc);
-    for tracklet in set.tracklets() {
-        push_ids(&mut ids, alloc, log, tracklet.spots())?;
-    }
+    push_ids(&mut ids, alloc, log, spots.as_slice())?;
     Ok(Track {
         nights: set.tracklets().len() as u32,
         ids,
+        ra: quad_of(spots.as_slice(), Axis::Ra, settings),
+        dec: quad_of(spots.as_slice(), Axis::Dec, settings),
     })
 }
 
+/// The spots of a set, one tracklet after the other.
+#[tactic(auto, using(crate::proofs::Steps::spots_one_more))]
+fn spots_of(alloc: Global, set: &TrackSet) -> Result<Vec<Spot>, NoMemory>
+    ensures { IfOk result (λ spots. spots.items ≡ spots_of set.now) }
+{
+    let mut spots = Vec::new(alloc);
+    for tracklet in set.tracklets() {
+        spots.extend_from_slice(tracklet.spots())?;
+    }
+    Ok(spots)
+}
+
+/// The reported quadratic of spots on an axis.
+fn quad_of(spots: &[Spot], axis: Axis, settings: &Settings) -> Quad
+    requires arc { IsArc spots.now }
+    requires two { 2 ≤ length spots.now }
+    requires admitted { AxisAdmits axis settings.now spots.now }
+    ensures reported { IsReported axis settings.now spots.now result }
+    ensures valid { IsValidQuad (IsPosition axis) result }
+{
+    // The base is the first position, and the start lies between the first and the last epoch.
+    let first = &spots[0];
+    let last = &spots[spots.len() - 1];
+    let _ends = (first.epoch, last.epoch);
+    let quad = reported(spots, axis, settings);
+    let _ = &quad.den;
+    quad
+}
+
 /// Adds the ids of some spots.
+#[tactic(auto, using(crate::proofs::Steps::map_one_more))]
 fn push_ids(
     ids: &mut Words,
     alloc: Global,

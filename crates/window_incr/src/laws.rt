@@ -18,7 +18,8 @@ pub fn stats_are_unique()
     ensures { StatsAreUnique }
 {}
 
-/// Each sound state has a report.
+/// Each sound state has a report, where its settings lie in their ranges.
+#[tactic(auto, using(crate::proofs::ReportLists::report_exists))]
 pub fn report_exists()
     ensures { ReportExists }
 {
@@ -26,6 +27,7 @@ pub fn report_exists()
 }
 
 /// Each sound state has statistics.
+#[tactic(auto, using(crate::proofs::ReportLists::stats_exist))]
 pub fn stats_exist()
     ensures { StatsExist }
 {

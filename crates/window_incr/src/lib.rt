@@ -7,7 +7,6 @@ pub use laws::{report_exists, report_follows, report_is_unique, stats_are_unique
 pub use state::Linker;
 
 mod answers;
-mod keeping;
 mod laws;
 mod listing;
 mod state;

@@ -1,12 +1,11 @@
 //! The report list: the maximal tracks of the kept nights, sorted in canonical order.
 ghost use Rattle.std.specs.Prelude.{◌≡◌, ◌++◌, ◌∷◌, [], IfOk, IsSome, MatchOption};
-ghost use Rattle.std.specs.Cmp.Lexicographic.{slice_cmp};
 ghost use Rattle.std.specs.Option.{option_cmp};
 ghost use Rattle.miti_text.specs.CanonicalOrder.{canonical_cmp};
 ghost use Rattle.exposure_log.specs.Held.{held_at};
 ghost use Rattle.sky_units.specs.TrackletData.{spots_of};
-ghost use Rattle.window_incr.specs.Answers.{IsReportList, held_of};
-ghost use Rattle.window_incr.specs.KeptNights.{nights_of};
+ghost use Rattle.window_incr.specs.Answers.{IsReportList, set_cmp};
+ghost use Rattle.kept_nights.specs.KeptNights.{nights_of};
 ghost use Rattle.window_incr.specs.Soundness.{IsSoundState};
 
 use exposure_log::ExposureLog;
@@ -25,7 +24,8 @@ pub(crate) fn listed(
 ) -> Result<Vec<TrackSet>, NoMemory>
     requires sound { IsSoundState (record { settings = settings.now; log = log.now }) }
     requires kept { nights.now ≡ nights_of (record { settings = settings.now; log = log.now }) }
-    ensures { IfOk result (λ list. IsReportList (record { settings = settings.now; log = log.now }) list.items) }
+    ensures { IfOk result (λ list.
+        IsReportList (record { settings = settings.now; log = log.now }) list.items) }
 {
     let mut list = maximal_tracks(alloc, nights, settings)?;
     list.sort_by(|one, other| compare_sets(log, one, other))?;
@@ -34,7 +34,7 @@ pub(crate) fn listed(
 
 /// How two sets of tracklets compare: detection by detection, in canonical order.
 fn compare_sets(log: &ExposureLog, one: &TrackSet, other: &TrackSet) -> Ordering
-    ensures { result ≡ slice_cmp (option_cmp canonical_cmp) (held_of log.now (spots_of one.now)) (held_of log.now (spots_of other.now)) }
+    ensures { result ≡ set_cmp log.now one.now other.now }
 {
     let mut left = SpotsLeft::of(one);
     let mut right = SpotsLeft::of(other);
@@ -57,8 +57,10 @@ fn compare_sets(log: &ExposureLog, one: &TrackSet, other: &TrackSet) -> Ordering
 
 /// How the held detections of two numbers compare in canonical order. A number without one stands
 /// first.
+#[tactic(auto, using(crate::proofs::ReportLists::itself))]
 fn compare_detections(log: &ExposureLog, one: u32, other: u32) -> Ordering
-    ensures { result ≡ option_cmp canonical_cmp (held_at log.now.exposures one) (held_at log.now.exposures other) }
+    ensures { result ≡ option_cmp canonical_cmp (held_at log.now.exposures one)
+        (held_at log.now.exposures other) }
 {
     if one == other {
         return Ordering::Equal;
@@ -75,7 +77,8 @@ fn compare_detections(log: &ExposureLog, one: u32, other: u32) -> Ordering
 fn compare_held(log: &ExposureLog, one: u32, other: u32) -> Ordering
     requires one { IsSome (held_at log.now.exposures one) }
     requires other { IsSome (held_at log.now.exposures other) }
-    ensures { result ≡ option_cmp canonical_cmp (held_at log.now.exposures one) (held_at log.now.exposures other) }
+    ensures { result ≡ option_cmp canonical_cmp (held_at log.now.exposures one)
+        (held_at log.now.exposures other) }
 {
     if log.before(one, other) {
         return Ordering::Less;
@@ -106,7 +109,9 @@ impl<'a> SpotsLeft<'a> {
 
     /// The first spot that is left, and what is left after it.
     fn next(self) -> Option<(&'a Spot, SpotsLeft<'a>)>
-        ensures { MatchOption result (self.entry.spots.now ++ spots_of self.entry.tracklets.now ≡ []) (λ found. self.entry.spots.now ++ spots_of self.entry.tracklets.now ≡ found.0.now ∷ (found.1.spots.now ++ spots_of found.1.tracklets.now)) }
+        ensures { MatchOption result (self.entry.spots.now ++ spots_of self.entry.tracklets.now ≡
+            []) (λ found. self.entry.spots.now ++ spots_of self.entry.tracklets.now ≡
+            found.0.now ∷ (found.1.spots.now ++ spots_of found.1.tracklets.now)) }
     {
         if let Some((spot, spots)) = self.spots.split_first() {
             let tracklets = self.tracklets;

@@ -8,16 +8,17 @@ ghost use Rattle.exposure_log.specs.HandedBack.{IsHandedBack};
 ghost use Rattle.exposure_log.specs.declared.errors.AddError.TheVariants.{NoMemory as no_memory};
 ghost use Rattle.night_tree.specs.Nights.{tracklets_of_each};
 ghost use Rattle.window_incr.specs.Answers.{tracklet_ids, IsReport, AreStats};
-ghost use Rattle.window_incr.specs.KeptNights.{nights_of};
+ghost use Rattle.kept_nights.specs.KeptNights.{nights_of};
 ghost use Rattle.window_incr.specs.LinkerState.{LinkerData, after_setting};
 ghost use Rattle.window_incr.specs.Soundness.{IsSoundLinker};
-ghost use Rattle.window_incr.specs.ValidReports.{IsValidReport};
+ghost use Rattle.miti_text.specs.ValidReports.{IsValidReport};
 
 use crate::answers::{groups_of, tracks_of};
-use crate::keeping::{forget_before, night_of_number, renew_or_remove};
 use crate::listing::listed;
 use exposure_log::{AddError, Exposure, ExposureLog, NotHeld, WindowError};
+use kept_nights::{forget_before, night_of_number, renew_or_remove};
 use night_tree::Night;
+use plain_tracks::maximal_tracks;
 use sky_units::{Groups, NoMemory, Report, SetError, Settings, Stats, Tally, Word};
 use std::alloc::Global;
 use std::marker::Model;
@@ -38,19 +39,31 @@ impl Model for Linker {
     ghost use Rattle.std.specs.Prelude.{◌≡◌, IfSome};
     ghost use Rattle.sky_units.specs.Limits.{IsNear};
     ghost use Rattle.window_incr.specs.LinkerState.{LinkerData};
-    ghost use Rattle.window_incr.specs.KeptNights.{nights_of};
+    ghost use Rattle.kept_nights.specs.KeptNights.{nights_of};
 
     ghost Value = { LinkerData };
 
-    ghost view = { λ l. record { state = record { settings = l.settings; log = l.log }; nights = l.nights.items } };
+    ghost view = { λ l. record {
+      state = record { settings = l.settings; log = l.log };
+      nights = l.nights.items;
+    } };
 
-    ghost invariant = { λ l. (l.log.night_shift ≡ l.settings.night_shift) × IfSome l.log.window IsNear × (l.nights.items ≡ nights_of (record { settings = l.settings; log = l.log })) };
+    ghost invariant = { λ l. (l.log.night_shift ≡ l.settings.night_shift) ×
+        IfSome l.log.window IsNear ×
+        (l.nights.items ≡ nights_of (record { settings = l.settings; log = l.log })) };
 }
 
 impl Linker {
     /// A linker under these settings, with no window and nothing held.
     pub fn new(alloc: Global, settings: Settings) -> Result<Linker, NoMemory>
-        ensures { IfOk result (λ l. l ≡ record { state = record { settings = settings; log = record { night_shift = settings.night_shift; window = None; exposures = [] } }; nights = [] }) }
+        ensures { IfOk result (λ l. l ≡
+            record {
+              state = record {
+                settings = settings;
+                log = record { night_shift = settings.night_shift; window = None; exposures = [] };
+              };
+              nights = [];
+            }) }
     {
         let log = ExposureLog::new(alloc, settings.night_shift)?;
         Ok(Linker {
@@ -84,7 +97,8 @@ impl Linker {
     /// takes no memory.
     pub fn set(&mut self, name: &[u8], value: i64) -> Result<(), SetError>
         ensures ok { OnOk result (after_setting name.now value self.old.state ≡ Ok self.new.state) }
-        ensures cause { IfErr result (λ error. after_setting name.now value self.old.state ≡ Err error) }
+        ensures cause { IfErr result (λ error. after_setting name.now value self.old.state ≡
+            Err error) }
         ensures err { OnErr result (self.new ≡ self.old) }
         ensures kept { self.new.nights ≡ nights_of self.new.state }
     {
@@ -101,8 +115,12 @@ impl Linker {
     /// refusal are those of the log. The night of the exposure is built anew, and no other. No fit
     /// test is made.
     pub fn add(&mut self, exposure: &Exposure, tally: &mut Tally) -> Result<u32, AddError>
-        ensures ok { IfOk result (λ count. (refusal self.old.state.log exposure.now ≡ None) × (count ≡ length exposure.now.detections) × TakesIn self.old.state.log self.new.state.log exposure.now × (self.new.state.settings ≡ self.old.state.settings)) }
-        ensures cause { IfErr result (λ error. error ≢ no_memory → refusal self.old.state.log exposure.now ≡ Some error) }
+        ensures ok { IfOk result (λ count. (refusal self.old.state.log exposure.now ≡ None) ×
+            (count ≡ length exposure.now.detections) ×
+            TakesIn self.old.state.log self.new.state.log exposure.now ×
+            (self.new.state.settings ≡ self.old.state.settings)) }
+        ensures cause { IfErr result (λ error. error ≢ no_memory →
+            refusal self.old.state.log exposure.now ≡ Some error) }
         ensures err { OnErr result (self.new ≡ self.old) }
         ensures kept { self.new.nights ≡ nights_of self.new.state }
         ensures tally { tally.new ≡ tally.old }
@@ -127,7 +145,10 @@ impl Linker {
     /// Holds an exposure from now on, as `add` does, but the exposure itself and no copy of it. One
     /// that is refused comes back whole.
     pub fn hold(&mut self, exposure: Exposure, tally: &mut Tally) -> Result<u32, NotHeld>
-        ensures ok { IfOk result (λ count. (refusal self.old.state.log exposure ≡ None) × (count ≡ length exposure.detections) × TakesIn self.old.state.log self.new.state.log exposure × (self.new.state.settings ≡ self.old.state.settings)) }
+        ensures ok { IfOk result (λ count. (refusal self.old.state.log exposure ≡ None) ×
+            (count ≡ length exposure.detections) ×
+            TakesIn self.old.state.log self.new.state.log exposure ×
+            (self.new.state.settings ≡ self.old.state.settings)) }
         ensures cause { IfErr result (λ error. IsHandedBack self.old.state.log exposure error) }
         ensures err { OnErr result (self.new ≡ self.old) }
         ensures kept { self.new.nights ≡ nights_of self.new.state }
@@ -159,7 +180,8 @@ impl Linker {
     pub fn set_window(&mut self, lo: i64, hi: i64, tally: &mut Tally) -> Result<(), WindowError>
         requires { IsNear (lo, hi) }
         ensures answer { IsAnsweredAs (window_refusal self.old.state.log.window lo hi) result }
-        ensures ok { OnOk result (self.new.state ≡ record self.old.state { log = moved self.old.state.log lo hi }) }
+        ensures ok { OnOk result (self.new.state ≡
+            record self.old.state { log = moved self.old.state.log lo hi }) }
         ensures err { OnErr result (self.new ≡ self.old) }
         ensures kept { self.new.nights ≡ nights_of self.new.state }
         ensures tally { tally.new ≡ tally.old }
@@ -172,8 +194,10 @@ impl Linker {
     }
 
     /// The window, and the maximal tracks of the held detections in canonical order (the definition
-    /// `IsReport`). The report is valid: each track has three or more nights, and no more than a
-    /// window, with two or more ids for each. The fit tests that are made aren't counted.
+    /// `IsReport`), each with the reported quadratic on each axis. The report is valid: each track
+    /// has three or more nights, and no more than a window, with two or more ids for each, and its
+    /// quadratics are counted from a position and an epoch. The fit tests that are made aren't
+    /// counted.
     pub fn report(&self, tally: &mut Tally) -> Result<Report, NoMemory>
         ensures report { IfOk result (λ report. IsReport self.now.state report) }
         ensures valid { IfOk result (λ report. IsValidReport report) }
@@ -186,7 +210,7 @@ impl Linker {
             self.nights.as_slice(),
             &self.settings,
         )?;
-        let tracks = tracks_of(self.alloc, &self.log, list.as_slice())?;
+        let tracks = tracks_of(self.alloc, &self.log, &self.settings, list.as_slice())?;
         Ok(Report { window, tracks })
     }
 
@@ -208,17 +232,12 @@ impl Linker {
         ensures { IfOk result (λ stats. AreStats self.now.state stats) }
     {
         let _ = self.log.window();
-        let list = listed(
-            self.alloc,
-            &self.log,
-            self.nights.as_slice(),
-            &self.settings,
-        )?;
+        let tracks = maximal_tracks(self.alloc, self.nights.as_slice(), &self.settings)?;
         Ok(Stats {
             exposures: self.log.exposures(),
             detections: self.log.detections(),
             tracklets: tracklet_count(self.nights.as_slice()),
-            tracks: list.len() as u64,
+            tracks: tracks.len() as u64,
         })
     }
 }

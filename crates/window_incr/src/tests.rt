@@ -1,8 +1,8 @@
-//! A linker with nothing held, one with one exposure, and the laws. Whole scripts are tests of `mops_run`.
+//! A linker with nothing held, one with two exposures, and the laws. Whole scripts are tests of `mops_run`.
 use super::*;
 use exposure_log::{Exposure, gather};
 use miti_text::read_line;
-use sky_units::{Settings, Tally};
+use sky_units::{NoMemory, Settings, Tally};
 use std::alloc::Global;
 use std::test::Fail;
 
@@ -14,7 +14,27 @@ fn exposure_of(alloc: Global, line: &[u8]) -> Result<Option<Exposure>, Fail> {
 }
 
 #[test]
-fn one_exposure(rt: HostRuntime) -> Result<(), Fail> {
+fn nothing_held(rt: HostRuntime) -> Result<(), NoMemory> {
+    let mut linker = Linker::new(rt.alloc(), Settings::standard())?;
+    assert!(rt; linker.set(b"stages", 1).is_ok());
+    assert_eq!(rt; linker.settings().stages, 1);
+    assert!(rt; linker.nights().is_empty());
+    assert!(rt; linker.tracklets(59_000)?.items().is_empty());
+    Ok(())
+}
+
+#[test]
+fn nothing_reported(rt: HostRuntime) -> Result<(), NoMemory> {
+    let linker = Linker::new(rt.alloc(), Settings::standard())?;
+    let report = linker.report(&mut Tally::zero())?;
+    assert!(rt; report.window.is_none());
+    assert!(rt; report.tracks.items().is_empty());
+    assert_eq!(rt; linker.stats()?.tracks, 0);
+    Ok(())
+}
+
+#[test]
+fn one_tracklet(rt: HostRuntime) -> Result<(), Fail> {
     let alloc = rt.alloc();
     let mut tally = Tally::zero();
     let mut linker = Linker::new(alloc, Settings::standard())?;
@@ -23,15 +43,12 @@ fn one_exposure(rt: HostRuntime) -> Result<(), Fail> {
     if let Some(exposure) = exposure_of(alloc, line)? {
         assert!(rt; linker.add(&exposure, &mut tally) == Ok(1));
     }
+    let line = b"a2 59000.270000 10.002000 5.000000 20.0 568 obj1";
+    if let Some(exposure) = exposure_of(alloc, line)? {
+        assert!(rt; linker.hold(exposure, &mut tally).is_ok());
+    }
     assert_eq!(rt; linker.nights().len(), 1);
-    Ok(())
-}
-
-#[test]
-fn nothing_held(rt: HostRuntime) -> Result<(), Fail> {
-    let linker = Linker::new(rt.alloc(), Settings::standard())?;
-    assert_eq!(rt; linker.settings().tol_ra, Settings::standard().tol_ra);
-    assert!(rt; linker.nights().is_empty());
+    assert_eq!(rt; linker.tracklets(59_000)?.items().len(), 1);
     Ok(())
 }
 

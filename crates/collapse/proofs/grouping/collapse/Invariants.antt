@@ -1,7 +1,7 @@
-use Rattle.std.specs.Prelude.{◌≡◌, [], take}
-use Rattle.collapse.specs.Groups.{join_all}
+use Rattle.std.specs.Prelude.{map}
+use Rattle.collapse.proofs.Filing.{AreJoined}
 use Rattle.collapse.proofs.grouping.collapse.Given as goal
 
--- the pairs seen have joined groups
+-- the pairs seen have joined groups, and the groups are filed
 abbrev pub invariant-loop-at : goal.invariant-loop-at
-invariant-loop-at l = l.groups.items ≡ join_all l.settings l.spots (take l.at l.pairs) []
+invariant-loop-at l = AreJoined l.settings l.spots l.pairs l.at l.groups.items l.grid.width (map (λ list. list.items) l.strips.items)

@@ -1,12 +1,12 @@
 use Rattle.std.proofs.Common.{◌≡◌, ℤ, pos, neg_ℤ, ◌+ℤ◌, ◌-ℤ◌, ◌*ℤ◌, Bool, true, false, ◌&&◌, to_z, of_z, w64, refl, sym, subst, ap, ◌∙◌, arith}
-use Rattle.std.proofs.lemmas.Int.{ints, to_z-of_z}
+use Rattle.std.proofs.lemmas.Int.{ints}
 use Rattle.std.specs.Int.Signed.{le_z, lt_z}
 use Rattle.sky_units.proofs.EpochOrder.{test_of_lt}
 use Rattle.sky_units.specs.Motion.{offset}
 use Rattle.sky_units.specs.SettingsData.{SettingsData}
 use Rattle.sky_units.specs.SpotData.{SpotData}
 use Rattle.sky_units.specs.declared.axis.Axis.TheVariants.{Ra, Dec}
-use Rattle.collapse.specs.Reach.{are_in_reach, is_in_reach}
+use Rattle.collapse.specs.Reach.{is_in_reach}
 use Rattle.collapse.proofs.reaching.are_in_reach.Goals as goal
 
 not_second : (a b c : Bool) → b ≡ false → false ≡ (a && b && c)

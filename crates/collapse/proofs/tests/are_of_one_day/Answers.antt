@@ -1,4 +1,4 @@
-use Rattle.std.proofs.Common.{◌≡◌, pos, ◌-ℤ◌, ◌≤ℤ◌, arith}
+use Rattle.std.proofs.Common.{pos, ◌-ℤ◌, ◌≤ℤ◌}
 use Rattle.line_fit.proofs.OneDay.{day_of_ends, day_read}
 use Rattle.collapse.proofs.tests.are_of_one_day.Goals as goal
 

@@ -1,49 +1,34 @@
-use Rattle.std.proofs.Common.{◌≡◌, ◌∙◌, sym, ap, arith, length, [], ◌∷◌, ◌++◌, reverse, vec_len}
-use Rattle.exposure_log.proofs.Gathering.{Gathering, cut_off, joined, ids_rise, prefix_rises, all_cut, nothing_to_cut, popped, none_left, positive, is_zero}
+use Rattle.std.proofs.Common.{◌≡◌, ◌<◌, ◌-◌, ◌∙◌, arith, rules, length, drop, vec_len}
+use Rattle.std.proofs.lemmas.Bool.{eqb-true}
+use Rattle.std.proofs.lemmas.List.{length-drop}
+use Rattle.exposure_log.proofs.Cutting.{ids_rise, back_rises, back_is_one, taken_off, one_more, all_cut}
 use Rattle.exposure_log.proofs.exposures.cut.Goals as goal
-use Rattle.exposure_log.proofs.exposures.cut.Goals.{then-begins_another+in_ok-exposure_of+in_ok-push, else-begins_another, then-not-is_empty+in_ok-exposure_of-2+in_ok-push-3, else-not-is_empty}
+
+pub exposure_of-requires-clause-few : goal.exposure_of-requires-clause-few
+exposure_of-requires-clause-few c =
+    let few = c.loop-alloc.invariant.few in
+    let many : length c.in_ok-last.last.items ≡ length c.loop-alloc.rest.items - c.start_of_last-start.result = rw c.in_ok-last.ensures.taken (length-drop c.start_of_last-start.result c.loop-alloc.rest.items) in
+    omega (arith, few, many, c.in_ok-last.last.ok.0)
+
+pub exposure_of-requires-clause-one_exposure : goal.exposure_of-requires-clause-one_exposure
+exposure_of-requires-clause-one_exposure c =
+    rw c.in_ok-last.ensures.taken (back_is_one c.loop-alloc.rest.items c.start_of_last-start.result (rw c.as_slice.ensures.value at c.start_of_last-start.ensures.within) (rw c.as_slice.ensures.value at c.start_of_last-start.ensures.last))
 
 pub exposure_of-requires-clause-order : goal.exposure_of-requires-clause-order
 exposure_of-requires-clause-order c =
-    rw c.replace-whole.ensures.value (ids_rise c.loop-detection.current.items c.loop-detection.invariant.same (prefix_rises c.loop-detection.current.items (reverse c.loop-detection.rest.items) c.loop-detection.invariant.rising))
+    let within : c.start_of_last-start.result < length c.loop-alloc.rest.items = rw c.as_slice.ensures.value at c.start_of_last-start.ensures.within in
+    let one = back_is_one c.loop-alloc.rest.items c.start_of_last-start.result within (rw c.as_slice.ensures.value at c.start_of_last-start.ensures.last) in
+    rw c.in_ok-last.ensures.taken (ids_rise (drop c.start_of_last-start.result c.loop-alloc.rest.items) one (back_rises c.loop-alloc.rest.items c.start_of_last-start.result within c.loop-alloc.invariant.rising))
 
-pub exposure_of-requires-then-not-is_empty-clause-order : goal.exposure_of-requires-then-not-is_empty-clause-order
-exposure_of-requires-then-not-is_empty-clause-order c =
-    ids_rise c.loop-detection.current.items c.loop-detection.invariant.same (prefix_rises c.loop-detection.current.items (reverse c.loop-detection.rest.items) c.loop-detection.invariant.rising)
-
-pub loop-detection-preserved : goal.loop-detection-preserved
-loop-detection-preserved c =
-    let turned : reverse c.loop-detection.rest.items ≡ c.in-Some.detection ∷ reverse c.pop.new.self.items = popped c.loop-detection.rest.items c.pop.new.self.items c.in-Some.detection c.in-Some.ensures.items in
-    let g : Gathering c.args.sorted.items c.loop-detection.exposures.items c.loop-detection.current.items (c.in-Some.detection ∷ reverse c.pop.new.self.items) = rw turned at c.loop-detection.invariant in
-    elim c.if-begins_another.branch [
-      | then-begins_another+in_ok-exposure_of+in_ok-push w ↦
-          let yes = rw c.as_slice.ensures.value at (c.begins_another.ensures.yes w.if-begins_another.true) in
-          let x = w.in_ok-exposure_of.ensures in
-          let same : w.in_ok-exposure_of.field-0.detections ≡ c.loop-detection.current.items = x.0 ∙ ap (λ v. v.items) w.replace-whole.ensures.value in
-          let exposures : c.if-begins_another.exposures.items ≡ c.loop-detection.exposures.items ++ w.in_ok-exposure_of.field-0 ∷ [] = ap (λ v. v.items) w.exposures-is ∙ w.in_ok-push.ensures.items in
-          let emptied : c.if-begins_another.current.items ≡ [] = ap (λ v. v.items) w.current-is ∙ (ap (λ v. v.items) w.replace-whole.ensures.after ∙ w.new.ensures.items) in
-          rw (exposures, c.in_ok-push-2.ensures.items, emptied)
-          (cut_off c.args.sorted.items c.loop-detection.exposures.items c.loop-detection.current.items (reverse c.pop.new.self.items) c.in-Some.detection w.in_ok-exposure_of.field-0 g x.1 same yes.0 yes.1)
-      | else-begins_another w ↦
-          let not = rw c.as_slice.ensures.value at (c.begins_another.ensures.no w.if-begins_another.false) in
-          let exposures : c.if-begins_another.exposures.items ≡ c.loop-detection.exposures.items = ap (λ v. v.items) w.exposures-is in
-          let current : c.if-begins_another.current.items ≡ c.loop-detection.current.items = ap (λ v. v.items) w.current-is in
-          rw (exposures, c.in_ok-push-2.ensures.items, current)
-          (joined c.args.sorted.items c.loop-detection.exposures.items c.loop-detection.current.items (reverse c.pop.new.self.items) c.in-Some.detection g not)
-    ]
+pub loop-alloc-preserved : goal.loop-alloc-preserved
+loop-alloc-preserved c =
+    let within : c.start_of_last-start.result < length c.loop-alloc.rest.items = rw c.as_slice.ensures.value at c.start_of_last-start.ensures.within in
+    let x = c.in_ok-exposure_of.ensures in
+    let off = taken_off c.loop-alloc.rest.items c.start_of_last-start.result within c.in_ok-exposure_of.field-0 x.1 (x.0 ∙ c.in_ok-last.ensures.taken) (rw c.as_slice.ensures.value at c.start_of_last-start.ensures.other) in
+    rw (c.in_ok-last.ensures.kept, c.in_ok-push.ensures.items)
+    (one_more c.args.sorted.items c.loop-alloc.rest.items c.loop-alloc.exposures.items c.start_of_last-start.result c.in_ok-exposure_of.field-0 c.loop-alloc.invariant within off)
 
 pub returns : goal.returns
 returns c =
-    let left : length c.loop-detection.rest.items ≡ 0 = omega (arith, c.in_default.ensures.cases, c.loop-detection.rest.ok.0) in
-    let g : Gathering c.args.sorted.items c.loop-detection.exposures.items c.loop-detection.current.items [] = rw (none_left c.loop-detection.rest.items left) at c.loop-detection.invariant in
-    elim c.if-not-is_empty.branch [
-      | then-not-is_empty+in_ok-exposure_of-2+in_ok-push-3 w ↦
-          let x = w.in_ok-exposure_of-2.ensures in
-          let exposures : c.if-not-is_empty.exposures.items ≡ c.loop-detection.exposures.items ++ w.in_ok-exposure_of-2.field-0 ∷ [] = ap (λ v. v.items) w.exposures-is ∙ w.in_ok-push-3.ensures.items in
-          let some = positive (vec_len c.loop-detection.current) (sym c.is_empty.ensures ∙ w.if-not-is_empty.true) in
-          rw exposures (all_cut c.args.sorted.items c.loop-detection.exposures.items c.loop-detection.current.items w.in_ok-exposure_of-2.field-0 g x.1 x.0 (omega (arith, some, c.loop-detection.current.ok.0)))
-      | else-not-is_empty w ↦
-          let exposures : c.if-not-is_empty.exposures.items ≡ c.loop-detection.exposures.items = ap (λ v. v.items) w.exposures-is in
-          let none = is_zero (vec_len c.loop-detection.current) (sym c.is_empty.ensures ∙ w.if-not-is_empty.false) in
-          rw exposures (nothing_to_cut c.args.sorted.items c.loop-detection.exposures.items c.loop-detection.current.items g (omega (arith, none, c.loop-detection.current.ok.0)))
-    ]
+    let none : vec_len c.loop-alloc.rest ≡ 0 = eqb-true (vec_len c.loop-alloc.rest) 0 (search rules) in
+    rw c.reverse.ensures.items (all_cut c.args.sorted.items c.loop-alloc.rest.items c.loop-alloc.exposures.items c.requires.order (omega (arith, none, c.loop-alloc.rest.ok.0)) c.loop-alloc.invariant)

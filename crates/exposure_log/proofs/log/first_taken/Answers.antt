@@ -1,4 +1,4 @@
-use Rattle.std.proofs.Common.{◌≡◌, ◌≢◌, ℕ, ◌+◌, ◌-◌, ◌<◌, ◌≤◌, length, get_or, arith, ap, ◌∙◌, sym, Some, List, false, inl, inr, refl, Option, None, take, subst, IsTrue}
+use Rattle.std.proofs.Common.{◌≡◌, ◌≢◌, ℕ, ◌+◌, ◌-◌, ◌<◌, ◌≤◌, length, get_or, arith, ap, ◌∙◌, sym, Some, List, true, false, inl, inr, refl, Option, None, take, subst, IsTrue}
 use Rattle.std.specs.Option.{is_some}
 use Rattle.std.proofs.lemmas.Option.{slice_get_read, get_or_from_slice_get}
 use Rattle.std.specs.declared.cmp.Ordering.{Ordering}
@@ -12,7 +12,7 @@ use Rattle.std.proofs.lemmas.List.Elements.{All-more}
 use Rattle.std.specs.List.{All}
 use Rattle.miti_text.specs.Observation.{Observation, is_id}
 use Rattle.number_register.specs.Numbering.{slot}
-use Rattle.exposure_log.specs.Numbered.{NoneTaken, IsFirstTaken, IsFresh, IsApart}
+use Rattle.exposure_log.proofs.Refusing.{none_more, no_taken, taken_first}
 use Rattle.exposure_log.specs.Exposures.{IdsDontFall}
 use Rattle.exposure_log.proofs.log.first_taken.Goals as goal
 use Rattle.exposure_log.proofs.log.first_taken.Goals.{then-place-gt0+else-eq, else-place-gt0}
@@ -39,7 +39,7 @@ tied Greater s e g h = cc
 squeezed : (x y : List ℕ) → is_gt (slice_cmp nat_cmp x y) ≡ false → is_gt (slice_cmp nat_cmp y x) ≡ false → x ≡ y
 squeezed x y g h = exact_bytes x y (tied (slice_cmp nat_cmp x y) (slice_cmp nat_cmp y x) (nat_list_cmp_total.antisymm x y) g h)
 
-apart_from_last : (ds : Ds) (i : ℕ) → IdsDontFall ds → 0 < i → i < length ds → ((e : Observation) → (get_or ds (i - 1) e).id ≢ (get_or ds i e).id) → IsApart ds i
+apart_from_last : (ds : Ds) (i : ℕ) → IdsDontFall ds → 0 < i → i < length ds → ((e : Observation) → (get_or ds (i - 1) e).id ≢ (get_or ds i e).id) → (j : ℕ) (e : Observation) → j < i → (get_or ds j e).id ≢ (get_or ds i e).id
 apart_from_last ds i order low high last j e lt same = elim (cases_eq j (i - 1)) [
   | inl eq ↦ last e (rw (← eq) same)
   | inr ne ↦
@@ -49,19 +49,13 @@ apart_from_last ds i order low high last j e lt same = elim (cases_eq j (i - 1))
       last e (squeezed (get_or ds (i - 1) e).id (get_or ds i e).id b a')
 ]
 
-first_is : (at : ℕ → Option Observation) (ds : Ds) (i j : ℕ) → Some i ≡ Some j → IsFirstTaken at ds i → IsFirstTaken at ds j
-first_is at ds i j e f = let eq : i ≡ j = cc in rw (← eq) f
-
--- one place more
-none_more : (at : ℕ → Option Observation) (ds : Ds) (i : ℕ) → NoneTaken at ds i → IsFresh at ds i → IsApart ds i → NoneTaken at ds (i + 1)
-none_more at ds i none fresh apart = record {
-  fresh = λ k h. elim (cases_eq k i) [ inl e ↦ rw e fresh | inr ne ↦ none.fresh k (omega (arith, h, ne)) ];
-  apart = λ k h. elim (cases_eq k i) [ inl e ↦ rw e apart | inr ne ↦ none.apart k (omega (arith, h, ne)) ];
-}
-
 is_none : (o : Option ℕ) → false ≡ is_some o → o ≡ None
 is_none None h = refl
 is_none (Some n) h = cc
+
+some_number : (o : Option ℕ) → true ≡ is_some o → (n : ℕ) × (o ≡ Some n)
+some_number None h = cc
+some_number (Some n) h = (n, refl)
 
 -- the id of one place more
 ids_more : (ds : Ds) (i : ℕ) (item : Observation) (id : List ℕ) → i < length ds → item ≡ get_or ds i item → id ≡ item.id → IsTrue (is_id id)
@@ -69,35 +63,42 @@ ids_more : (ds : Ds) (i : ℕ) (item : Observation) (id : List ℕ) → i < leng
 ids_more ds i item id h is same rule ids =
     All-more (λ (d : Observation). IsTrue (is_id d.id)) ds i item h ids (subst (λ w. IsTrue (is_id w)) (same ∙ sym (id_at ds i item item h is)) rule)
 
-no_earlier : (ds : Ds) (i : ℕ) → i ≤ 0 → IsApart ds i
+no_earlier : (ds : Ds) (i : ℕ) → i ≤ 0 → (j : ℕ) (e : Observation) → j < i → (get_or ds j e).id ≢ (get_or ds i e).id
 no_earlier ds i h j e lt = absurd (omega (arith, h, lt))
 
-pub returns-then-eq-clause-some : goal.returns-then-eq-clause-some
-returns-then-eq-clause-some c = λ j e.
+pub returns-then-is_some-clause-first : goal.returns-then-is_some-clause-first
+returns-then-is_some-clause-first c =
+    let l : c.loop-place.place < length c.args.detections.now = omega arith in
+    let number = some_number c.find.result c.if-is_some.ensures in
+    let there = c.find.ensures.some number.0 number.1 in
+    let second : c.detection.inside.id ≡ c.index-detections-place.result.id = ap (λ (x : Observation). x.id) c.detection.view_is in
+    taken_first c.args.register.now c.args.detections.now c.loop-place.place c.loop-place.invariant.untaken l
+    (inl (number.0, there.0, there.1, there.2 ∙ (c.bytes.ensures ∙ (second ∙ sym (id_at c.args.detections.now c.loop-place.place c.index-detections-place.result there.0 l c.index-detections-place.is)))))
+
+pub returns-then-eq-clause-first : goal.returns-then-eq-clause-first
+returns-then-eq-clause-first c =
     let l : c.loop-place.place < length c.args.detections.now = omega arith in
     let before : c.loop-place.place - 1 < length c.args.detections.now = omega arith in
     let same : c.earlier.inside.id ≡ c.detection.inside.id = (bytes_decides c.earlier.inside.id c.detection.inside.id).0 (sym c.if-eq.ensures) in
     let first : c.earlier.inside.id ≡ c.index-detections-place-then-place-gt0.result.id = ap (λ (x : Observation). x.id) c.earlier.view_is in
     let second : c.detection.inside.id ≡ c.index-detections-place.result.id = ap (λ (x : Observation). x.id) c.detection.view_is in
-    first_is (slot c.args.register.now) c.args.detections.now c.loop-place.place j e record {
-      within = l;
-      taken = inr (
-        c.loop-place.place - 1,
-        omega (arith, c.if-place-gt0.true),
-        λ d. id_at c.args.detections.now (c.loop-place.place - 1) c.index-detections-place-then-place-gt0.result d before c.index-detections-place-then-place-gt0.is
-            ∙ (sym first ∙ (same ∙ (second ∙ sym (id_at c.args.detections.now c.loop-place.place c.index-detections-place.result d l c.index-detections-place.is)))),
-      );
-      earlier = c.loop-place.invariant.untaken;
-    }
+    taken_first c.args.register.now c.args.detections.now c.loop-place.place c.loop-place.invariant.untaken l (inr (
+      c.loop-place.place - 1,
+      omega (arith, c.if-place-gt0.true),
+      λ d. id_at c.args.detections.now (c.loop-place.place - 1) c.index-detections-place-then-place-gt0.result d before c.index-detections-place-then-place-gt0.is
+          ∙ (sym first ∙ (same ∙ (second ∙ sym (id_at c.args.detections.now c.loop-place.place c.index-detections-place.result d l c.index-detections-place.is)))),
+    ))
+
+pub returns-clause-first : goal.returns-clause-first
+returns-clause-first c = no_taken c.args.register.now c.args.detections.now c.loop-place.place c.loop-place-test.false c.loop-place.invariant.untaken
 
 pub loop-place-preserved : goal.loop-place-preserved
 loop-place-preserved c =
     let l : c.loop-place.place < length c.args.detections.now = omega arith in
     let second : c.detection.inside.id ≡ c.index-detections-place.result.id = ap (λ (x : Observation). x.id) c.detection.view_is in
     let none = is_none c.find.result c.if-is_some.ensures in
-    let fresh : IsFresh (slot c.args.register.now) c.args.detections.now c.loop-place.place =
-    λ n d e held same. c.find.ensures.none none n d held (same ∙ (id_at c.args.detections.now c.loop-place.place c.index-detections-place.result e l c.index-detections-place.is ∙ (sym second ∙ sym c.bytes.ensures))) in
-    let untaken = none_more (slot c.args.register.now) c.args.detections.now c.loop-place.place c.loop-place.invariant.untaken fresh
+    let fresh : (n : ℕ) (d e : Observation) → slot c.args.register.now n ≡ Some d → d.id ≢ (get_or c.args.detections.now c.loop-place.place e).id = λ n d e held same. c.find.ensures.none none n d held (same ∙ (id_at c.args.detections.now c.loop-place.place c.index-detections-place.result e l c.index-detections-place.is ∙ (sym second ∙ sym c.bytes.ensures))) in
+    let untaken = none_more c.args.register.now c.args.detections.now c.loop-place.place c.loop-place.invariant.untaken fresh
     (elim c.if-place-gt0.branch [
       | then-place-gt0+else-eq w ↦
           let before : c.loop-place.place - 1 < length c.args.detections.now = omega arith in

@@ -1,8 +1,8 @@
-use Rattle.std.proofs.Common.{◌≡◌, ◌<◌, ◌≤◌, ◌+◌, pos, ◌-ℤ◌, ◌≤ℤ◌, ◌<ℤ◌, length, to_z, of_z, w64, arith}
+use Rattle.std.proofs.Common.{◌≡◌, ◌<◌, pos, ◌-ℤ◌, ◌≤ℤ◌, ◌<ℤ◌, length, to_z, of_z, w64, arith}
 use Rattle.std.specs.Prelude.{Some, None}
 use Rattle.std.proofs.lemmas.Int.{to_z-of_z}
 use Rattle.line_fit.specs.Lines.{least_slope, greatest_slope}
-use Rattle.line_fit.specs.Slopes.{IsNarrowed, Holds}
+use Rattle.line_fit.specs.Slopes.{IsNarrowed}
 use Rattle.line_fit.proofs.Steps.{SuitsUpTo, read_two, up_to_step, up_to_stop, up_to_all}
 use Rattle.line_fit.proofs.narrowing.narrow_to.Goals as goal
 

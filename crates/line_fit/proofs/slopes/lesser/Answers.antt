@@ -1,4 +1,4 @@
-use Rattle.std.proofs.Common.{pos, ◌*ℤ◌, ◌≤ℤ◌, ◌<ℤ◌, arith}
+use Rattle.std.proofs.Common.{pos, ◌<ℤ◌, arith}
 use Rattle.sky_math.proofs.Order.{linear}
 use Rattle.line_fit.proofs.Bounds.{at_most_from, above_from, positive_from, at_least_of_higher}
 use Rattle.line_fit.proofs.slopes.lesser.Goals as goal

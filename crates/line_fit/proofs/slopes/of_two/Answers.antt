@@ -1,6 +1,6 @@
-use Rattle.std.proofs.Common.{◌≡◌, pos, ◌+ℤ◌, ◌-ℤ◌, ◌≤ℤ◌, ◌<ℤ◌, refl, arith}
+use Rattle.std.proofs.Common.{pos, ◌+ℤ◌, ◌-ℤ◌, ◌≤ℤ◌, ◌<ℤ◌, refl, arith}
 use Rattle.std.proofs.lemmas.Int.{ints}
-use Rattle.line_fit.proofs.Bounds.{BoundTerms, bound_terms, two_filled}
+use Rattle.line_fit.proofs.Bounds.{bound_terms, two_filled}
 use Rattle.line_fit.proofs.slopes.of_two.Goals as goal
 
 pub invariant_of-result : goal.invariant_of-result

@@ -2,8 +2,11 @@ use Rattle.std.proofs.Common.{◌≡◌, ◌∷◌, [], ◌++◌, ◌+◌, ◌*�
 use Rattle.std.proofs.lemmas.Int.{ints}
 use Rattle.std.proofs.lemmas.List.{map-append}
 use Rattle.night_tree.specs.Nights.{NightData, tracklets_of, tracklets_of_each}
-use Rattle.plain_tracks.proofs.MoreNights.{IsWithin, night_of_two, one_more_night}
+use Rattle.plain_tracks.proofs.MoreNights.{IsWithin, day_of_two, night_of_two, one_more_night}
 use Rattle.plain_tracks.proofs.tests.nights_of.Goals as goal
+
+pub build-requires-clause-day : goal.build-requires-clause-day
+build-requires-clause-day c = rw c.in_ok-spots.ensures.items (day_of_two c.spot.result c.spot-in-loop-day.result (omega (arith, ints, c.spot.ensures, c.spot-in-loop-day.ensures)))
 
 pub loop-day-preserved : goal.loop-day-preserved
 loop-day-preserved c =

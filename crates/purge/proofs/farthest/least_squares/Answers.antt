@@ -1,14 +1,14 @@
-use Rattle.std.proofs.Common.{◌≡◌, ◌+◌, ◌<◌, ◌≤◌, pos, ◌+ℤ◌, ◌-ℤ◌, ◌*ℤ◌, length, take, ◌∙◌, arith}
+use Rattle.std.proofs.Common.{◌≡◌, ◌<◌, length, take, ◌∙◌, arith}
 use Rattle.std.proofs.lemmas.List.{take_all}
 use Rattle.sky_math.specs.Quadratics.{Point}
-use Rattle.sky_units.specs.Motion.{offset, point_from, points}
+use Rattle.sky_units.specs.Motion.{point_from, points}
 use Rattle.purge.specs.Sizes.{IsSmallPoint}
 use Rattle.purge.proofs.Terms.{held_position, held_time}
 use Rattle.purge.proofs.Totals.{AreSumsOf, one_more_point, point_read, points_length, small_read, sums_taken}
 use Rattle.purge.proofs.farthest.least_squares.Goals as goal
 
 pub with_point-sums-requires-clause-sums : goal.with_point-sums-requires-clause-sums
-with_point-sums-requires-clause-sums c = sums_taken c.args.axis c.args.spots.now c.loop-at.at _ _ _ _ _ c.requires.few c.requires.arc c.requires.day c.loop-at.invariant
+with_point-sums-requires-clause-sums c = sums_taken c.args.axis c.args.spots.now c.loop-at.at _ _ _ _ _ c.requires.arc c.requires.day c.loop-at.invariant
 
 pub with_point-sums-requires-clause-point : goal.with_point-sums-requires-clause-point
 with_point-sums-requires-clause-point c =
@@ -31,7 +31,7 @@ loop-at-preserved c =
     c.loop-at.invariant e.count (rw t at e.times) (rw t at e.squares) (rw p at e.positions) (rw (t, p) at e.products)
 
 pub line_of-requires : goal.line_of-requires
-line_of-requires c = sums_taken c.args.axis c.args.spots.now c.loop-at.at _ _ _ _ _ c.requires.few c.requires.arc c.requires.day c.loop-at.invariant
+line_of-requires c = sums_taken c.args.axis c.args.spots.now c.loop-at.at _ _ _ _ _ c.requires.arc c.requires.day c.loop-at.invariant
 
 pub returns : goal.returns
 returns c =

@@ -1,5 +1,4 @@
-use Rattle.std.proofs.Common.{◌≡◌, ◌<◌, ◌≤◌, length, get_or, refl, ◌∙◌, arith}
-use Rattle.std.proofs.lemmas.List.{length-map}
+use Rattle.std.proofs.Common.{◌≡◌, get_or, refl, ◌∙◌, arith}
 use Rattle.sky_units.specs.declared.axis.Axis.TheVariants.{Ra, Dec}
 use Rattle.purge.specs.Purging.{deviation, deviations}
 use Rattle.purge.proofs.Deviations.{deviation_read, deviations_length, worse_step}

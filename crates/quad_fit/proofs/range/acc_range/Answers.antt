@@ -2,18 +2,27 @@ use Rattle.std.proofs.Common.{◌≡◌, ◌<◌, length, true, false, to_z, of_
 use Rattle.std.proofs.lemmas.Int.{to_z-of_z}
 use Rattle.sky_units.specs.Motion.{points}
 use Rattle.quad_fit.specs.Levels.{IsExtreme}
-use Rattle.quad_fit.specs.MarkRanges.{RiseInTime}
+use Rattle.quad_fit.specs.MarkRanges.{AreMarks, RiseInTime}
 use Rattle.quad_fit.specs.References.{NonePasses}
 use Rattle.quad_fit.proofs.MarkLists.{marks_alone}
+use Rattle.quad_fit.proofs.Parts.{alone_marks}
 use Rattle.quad_fit.proofs.Ranges.{range_of_extremes}
 use Rattle.quad_fit.proofs.range.acc_range.Goals as goal
+
+pub marks_of-marks-requires : goal.marks_of-marks-requires
+marks_of-marks-requires c = alone_marks c.args.axis c.index-spots-0.result c.args.spots.now c.requires.arc (omega (arith, c.requires.three)) c.index-spots-0.is
+
+pub extreme-requires-clause-marks : goal.extreme-requires-clause-marks
+extreme-requires-clause-marks c =
+    let marks = alone_marks c.args.axis c.index-spots-0.result c.args.spots.now c.requires.arc (omega (arith, c.requires.three)) c.index-spots-0.is in
+    rw c.marks_of-marks.ensures marks
 
 pub returns-in_err-least : goal.returns-in_err-least
 returns-in_err-least c =
     let spots = c.args.spots.now in
     let tol : to_z w64 (of_z w64 c.args.tol) ≡ c.args.tol = to_z-of_z w64 c.args.tol c.ranges.tol in
     let some : 0 < length spots = omega (arith, c.requires.three) in
-    let same : c.marks_of-marks.result ≡ points c.args.axis spots = marks_alone c.args.axis c.index-spots-0.result spots c.marks_of-marks.result some c.index-spots-0.is c.marks_of-marks.ensures.value in
+    let same : c.marks_of-marks.result ≡ points c.args.axis spots = marks_alone c.args.axis c.index-spots-0.result spots c.marks_of-marks.result some c.index-spots-0.is c.marks_of-marks.ensures in
     let none : NonePasses c.args.tol (points c.args.axis spots) = rw (tol, same) at c.in_err-least.ensures in
     rw c.from_residual.ensures none
 
@@ -22,9 +31,11 @@ returns c =
     let spots = c.args.spots.now in
     let tol : to_z w64 (of_z w64 c.args.tol) ≡ c.args.tol = to_z-of_z w64 c.args.tol c.ranges.tol in
     let some : 0 < length spots = omega (arith, c.requires.three) in
-    let same : c.marks_of-marks.result ≡ points c.args.axis spots = marks_alone c.args.axis c.index-spots-0.result spots c.marks_of-marks.result some c.index-spots-0.is c.marks_of-marks.ensures.value in
+    let same : c.marks_of-marks.result ≡ points c.args.axis spots = marks_alone c.args.axis c.index-spots-0.result spots c.marks_of-marks.result some c.index-spots-0.is c.marks_of-marks.ensures in
     let limit = c.requires.tol in
-    let rise : RiseInTime (points c.args.axis spots) = rw same at c.marks_of-marks.ensures.marks.rise in
+    let marks = alone_marks c.args.axis c.index-spots-0.result spots c.requires.arc some c.index-spots-0.is in
+    let marks' : AreMarks (points c.args.axis spots) = rw (← c.marks_of-marks.ensures, same) at marks in
+    let rise : RiseInTime (points c.args.axis spots) = marks'.rise in
     let least : IsExtreme c.args.tol true (points c.args.axis spots) c.in_ok-least.least = rw (tol, same) at c.in_ok-least.ensures in
     let greatest : IsExtreme c.args.tol false (points c.args.axis spots) c.in_ok-greatest.greatest = rw (tol, same) at c.in_ok-greatest.ensures in
     let low = c.lowest_terms.ensures in

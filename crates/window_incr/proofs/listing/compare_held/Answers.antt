@@ -1,4 +1,4 @@
-use Rattle.window_incr.proofs.SetOrder.{not_before}
+use Rattle.window_incr.proofs.ReportLists.{not_before}
 use Rattle.window_incr.proofs.listing.compare_held.Goals as goal
 
 pub returns-then-before-2 : goal.returns-then-before-2

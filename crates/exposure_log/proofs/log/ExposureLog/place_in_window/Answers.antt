@@ -1,14 +1,13 @@
-use Rattle.std.proofs.Common.{◌≡◌, Less, refl, sym, to_z, of_z, w64, arith, length}
+use Rattle.std.proofs.Common.{◌≡◌, Less, refl, sym, to_z, of_z, w64, arith}
 use Rattle.std.specs.List.{filter}
 use Rattle.std.proofs.lemmas.Int.{ints}
 use Rattle.std.proofs.lemmas.List.Kept.{AllPairs-filter}
 use Rattle.exposure_log.specs.declared.numbered.NumberedExposure.{NumberedExposure}
-use Rattle.exposure_log.specs.Numbered.{NoneTaken, numbered_cmp}
+use Rattle.exposure_log.specs.Numbered.{numbered_cmp}
 use Rattle.exposure_log.specs.Nights.{listed_of, is_of_night}
-use Rattle.number_register.specs.Numbering.{slot}
 use Rattle.exposure_log.proofs.AtPlace.{none_at_place}
 use Rattle.exposure_log.proofs.FreePlace.{among_exposures_of_night}
-use Rattle.exposure_log.proofs.Refusing.{place_is_held_in_night, no_taken, taken_first}
+use Rattle.exposure_log.proofs.Refusing.{place_is_held_in_night}
 use Rattle.exposure_log.proofs.Removing.{is_not_there}
 use Rattle.exposure_log.proofs.log.ExposureLog.place_in_window.Goals as goal
 
@@ -32,8 +31,8 @@ returns-in-Some-clause-cause c =
     let here : c.of_night.result.now ≡ filter (is_of_night c.self.inside.nights.shift c.args.night) (listed_of c.self.inside.nights) = rw n at c.of_night.ensures in
     let free = rw (here, e, c.site.ensures) at c.in-Err.ensures.missing in
     let none = is_not_there c.self.inside.register (listed_of c.self.inside.nights) c.args.exposure.now.epoch c.args.exposure.now.site (none_at_place c.self.inside.nights.shift c.args.exposure.now.epoch c.args.exposure.now.site (listed_of c.self.inside.nights) c.in-Err.index (rw night at free)) in
-    let some = taken_first c.self.inside.register (listed_of c.self.inside.nights) c.self.invariant.1 c.args.exposure.now.detections c.in-Some.at (rw c.detections.ensures.value at (c.in-Some.ensures.some c.in-Some.at refl)) in
-    rw (← c.self.view_is, none, some) refl
+    let some = rw c.detections.ensures.value at (c.in-Some.ensures.first (listed_of c.self.inside.nights) c.self.invariant.1) in
+    rw (← c.self.view_is, none, ← some) refl
 
 pub returns-in-Some-refuses_for_room-clause-cause : goal.returns-in-Some-refuses_for_room-clause-cause
 returns-in-Some-refuses_for_room-clause-cause c =
@@ -43,8 +42,7 @@ returns-in-Some-refuses_for_room-clause-cause c =
     let here : c.of_night.result.now ≡ filter (is_of_night c.self.inside.nights.shift c.args.night) (listed_of c.self.inside.nights) = rw n at c.of_night.ensures in
     let free = rw (here, e, c.site.ensures) at c.in-Err.ensures.missing in
     let none = is_not_there c.self.inside.register (listed_of c.self.inside.nights) c.args.exposure.now.epoch c.args.exposure.now.site (none_at_place c.self.inside.nights.shift c.args.exposure.now.epoch c.args.exposure.now.site (listed_of c.self.inside.nights) c.in-Err.index (rw night at free)) in
-    let untaken : NoneTaken (slot c.self.inside.register) c.args.exposure.now.detections (length c.args.exposure.now.detections) = rw c.detections.ensures.value at (c.in_default-first_taken.ensures.none refl) in
-    let first = no_taken c.self.inside.register (listed_of c.self.inside.nights) c.args.exposure.now.detections untaken in
+    let first = sym (rw c.detections.ensures.value at (c.in_default-first_taken.ensures.first (listed_of c.self.inside.nights) c.self.invariant.1)) in
     let room = rw (← c.self.view_is) at c.in-Some-refuses_for_room.ensures.cause in
     rw (← c.self.view_is, none, first) (sym room)
 
@@ -56,8 +54,7 @@ returns-clause-place c =
     let here : c.of_night.result.now ≡ filter (is_of_night c.self.inside.nights.shift c.args.night) (listed_of c.self.inside.nights) = rw n at c.of_night.ensures in
     let free = rw (here, e, c.site.ensures) at c.in-Err.ensures.missing in
     let none = is_not_there c.self.inside.register (listed_of c.self.inside.nights) c.args.exposure.now.epoch c.args.exposure.now.site (none_at_place c.self.inside.nights.shift c.args.exposure.now.epoch c.args.exposure.now.site (listed_of c.self.inside.nights) c.in-Err.index (rw night at free)) in
-    let untaken : NoneTaken (slot c.self.inside.register) c.args.exposure.now.detections (length c.args.exposure.now.detections) = rw c.detections.ensures.value at (c.in_default-first_taken.ensures.none refl) in
-    let first = no_taken c.self.inside.register (listed_of c.self.inside.nights) c.args.exposure.now.detections untaken in
+    let first = sym (rw c.detections.ensures.value at (c.in_default-first_taken.ensures.first (listed_of c.self.inside.nights) c.self.invariant.1)) in
     let room = rw (← c.self.view_is) at c.in_default-refuses_for_room.ensures.cause in
     rw (← c.self.view_is, n) (
       rw (none, first) (sym room),

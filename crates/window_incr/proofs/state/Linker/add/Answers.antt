@@ -6,8 +6,8 @@ use Rattle.sky_math.specs.Night.{night_at}
 use Rattle.sky_units.specs.Limits.{IsNear}
 use Rattle.exposure_log.specs.Held.{LogData}
 use Rattle.window_incr.specs.LinkerState.{LinkerState}
-use Rattle.window_incr.specs.KeptNights.{RiseByNumber, night_data, nights_of, with_night}
-use Rattle.window_incr.proofs.Renewing.{kept_nights, numbers_rise, taken_out}
+use Rattle.kept_nights.specs.KeptNights.{RiseByNumber, night_data, nights_of, with_night}
+use Rattle.kept_nights.proofs.KeptNights.{kept_nights, numbers_rise, taken_out}
 use Rattle.window_incr.proofs.state.Linker.add.Goals as goal
 
 pub renew_or_remove-requires-clause-rising : goal.renew_or_remove-requires-clause-rising

@@ -5,59 +5,43 @@ use Rattle.sky_math.specs.Night.{night_at}
 use Rattle.sky_units.specs.Limits.{IsNear}
 use Rattle.exposure_log.specs.Held.{LogData}
 use Rattle.window_incr.specs.LinkerState.{LinkerState}
-use Rattle.window_incr.specs.KeptNights.{RiseByNumber, night_data, nights_of, with_night}
-use Rattle.window_incr.proofs.Renewing.{kept_nights, numbers_rise, taken_out}
+use Rattle.kept_nights.specs.KeptNights.{RiseByNumber, night_data, nights_of, with_night}
+use Rattle.kept_nights.proofs.KeptNights.{kept_nights, numbers_rise, taken_out}
 use Rattle.window_incr.proofs.state.Linker.hold.Goals as goal
 
 pub renew_or_remove-requires-clause-rising : goal.renew_or_remove-requires-clause-rising
 renew_or_remove-requires-clause-rising c = subst RiseByNumber (sym c.self.invariant.2) (numbers_rise (record { settings = c.self.inside.settings; log = c.self.inside.log }))
 
-pub returns-in-Ok-renew_or_remove-clause-kept : goal.returns-in-Ok-renew_or_remove-clause-kept
-returns-in-Ok-renew_or_remove-clause-kept c =
+kept : (c : goal.Joined-site-2) → c.renew_or_remove.new.nights.items ≡ nights_of (record { settings = c.self.inside.settings; log = c.hold.new.self })
+kept c =
     let fits_epoch : SFits w64 c.epoch-epoch.result = search rules in
     let s : LinkerState = record { settings = c.self.inside.settings; log = c.self.inside.log } in
     let renewed : c.renew_or_remove.new.nights.items ≡ with_night (night_data (record { settings = c.self.inside.settings; log = c.hold.new.self }) (night_at c.self.inside.settings.night_shift c.epoch-epoch.result)) c.self.inside.nights.items =
     simp to_z-of_z at c.in-Ok-renew_or_remove.ensures.nights in
     let taken = c.in_ok-count.ensures.ok in
-    let kept = kept_nights s c.hold.new.self c.args.exposure c.self.inside.nights.items c.renew_or_remove.new.nights.items c.window.ensures.orderly taken.0 taken.2 c.in-Ok-renew_or_remove.ensures.orderly c.self.invariant.0 c.self.invariant.2
-    (rw c.epoch-epoch.ensures.value at renewed) in
-    rw c.in-Ok-renew_or_remove.ensures.log kept
+    kept_nights s c.hold.new.self c.args.exposure c.self.inside.nights.items c.renew_or_remove.new.nights.items c.window.ensures.orderly taken.0 taken.2 c.in-Ok-renew_or_remove.ensures.orderly c.self.invariant.0 c.self.invariant.2
+    (rw c.epoch-epoch.ensures.value at renewed)
+
+pub returns-in-Ok-renew_or_remove-clause-kept : goal.returns-in-Ok-renew_or_remove-clause-kept
+returns-in-Ok-renew_or_remove-clause-kept c = rw c.in-Ok-renew_or_remove.ensures.log (kept c)
 
 pub invariant_of-self-in-Ok-renew_or_remove : goal.invariant_of-self-in-Ok-renew_or_remove
 invariant_of-self-in-Ok-renew_or_remove c =
+    let is = c.in_ok-count.ensures.ok.2.is in
+    rw c.in-Ok-renew_or_remove.ensures.log (ap (λ (l : LogData). l.night_shift) is ∙ c.self.invariant.0, subst (λ window. IfSome window IsNear) (sym (ap (λ (l : LogData). l.window) is)) c.self.invariant.1, kept c)
+
+left_is : (c : goal.Joined-site-3) → c.renew_or_remove.new.log ≡ c.self.inside.log
+left_is c =
     let fits_epoch : SFits w64 c.epoch-epoch.result = search rules in
-    let s : LinkerState = record { settings = c.self.inside.settings; log = c.self.inside.log } in
-    let renewed : c.renew_or_remove.new.nights.items ≡ with_night (night_data (record { settings = c.self.inside.settings; log = c.hold.new.self }) (night_at c.self.inside.settings.night_shift c.epoch-epoch.result)) c.self.inside.nights.items =
-    simp to_z-of_z at c.in-Ok-renew_or_remove.ensures.nights in
     let taken = c.in_ok-count.ensures.ok in
-    let kept = kept_nights s c.hold.new.self c.args.exposure c.self.inside.nights.items c.renew_or_remove.new.nights.items c.window.ensures.orderly taken.0 taken.2 c.in-Ok-renew_or_remove.ensures.orderly c.self.invariant.0 c.self.invariant.2
-    (rw c.epoch-epoch.ensures.value at renewed) in
-    let is = taken.2.is in
-    rw c.in-Ok-renew_or_remove.ensures.log (ap (λ (l : LogData). l.night_shift) is ∙ c.self.invariant.0, subst (λ window. IfSome window IsNear) (sym (ap (λ (l : LogData). l.window) is)) c.self.invariant.1, kept)
+    let rest = simp to_z-of_z at c.in-Err.ensures.removed in
+    taken_out c.self.inside.log c.hold.new.self c.renew_or_remove.new.log c.args.exposure c.window.ensures.orderly taken.0 taken.2 (rw (c.epoch-epoch.ensures.value, c.bytes.ensures, c.in-Ok.ensures, c.site.ensures) at rest)
 
 pub invariant_of-self-2 : goal.invariant_of-self-2
-invariant_of-self-2 c =
-    let fits_epoch : SFits w64 c.epoch-epoch.result = search rules in
-    let taken = c.in_ok-count.ensures.ok in
-    let rest = simp to_z-of_z at c.in-Err.ensures.removed in
-    let left : c.renew_or_remove.new.log ≡ c.self.inside.log = taken_out c.self.inside.log c.hold.new.self c.renew_or_remove.new.log c.args.exposure c.window.ensures.orderly taken.0 taken.2
-    (rw (c.epoch-epoch.ensures.value, c.bytes.ensures, c.in-Ok.ensures, c.site.ensures) at rest) in
-    rw left (c.self.invariant.0, c.self.invariant.1, c.in-Err.ensures.err ∙ c.self.invariant.2)
+invariant_of-self-2 c = rw (left_is c) (c.self.invariant.0, c.self.invariant.1, c.in-Err.ensures.err ∙ c.self.invariant.2)
 
 pub returns-clause-err : goal.returns-clause-err
-returns-clause-err c =
-    let fits_epoch : SFits w64 c.epoch-epoch.result = search rules in
-    let taken = c.in_ok-count.ensures.ok in
-    let rest = simp to_z-of_z at c.in-Err.ensures.removed in
-    let left : c.renew_or_remove.new.log ≡ c.self.inside.log = taken_out c.self.inside.log c.hold.new.self c.renew_or_remove.new.log c.args.exposure c.window.ensures.orderly taken.0 taken.2
-    (rw (c.epoch-epoch.ensures.value, c.bytes.ensures, c.in-Ok.ensures, c.site.ensures) at rest) in
-    rw (left, c.in-Err.ensures.err) c.self.view_is
+returns-clause-err c = rw (left_is c, c.in-Err.ensures.err) c.self.view_is
 
 pub returns-clause-kept : goal.returns-clause-kept
-returns-clause-kept c =
-    let fits_epoch : SFits w64 c.epoch-epoch.result = search rules in
-    let taken = c.in_ok-count.ensures.ok in
-    let rest = simp to_z-of_z at c.in-Err.ensures.removed in
-    let left : c.renew_or_remove.new.log ≡ c.self.inside.log = taken_out c.self.inside.log c.hold.new.self c.renew_or_remove.new.log c.args.exposure c.window.ensures.orderly taken.0 taken.2
-    (rw (c.epoch-epoch.ensures.value, c.bytes.ensures, c.in-Ok.ensures, c.site.ensures) at rest) in
-    rw left (c.in-Err.ensures.err ∙ c.self.invariant.2)
+returns-clause-kept c = rw (left_is c) (c.in-Err.ensures.err ∙ c.self.invariant.2)

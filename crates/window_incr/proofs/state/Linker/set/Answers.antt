@@ -6,7 +6,7 @@ use Rattle.exposure_log.specs.Held.{LogData}
 use Rattle.sky_units.specs.SettingNames.{set_named}
 use Rattle.sky_units.specs.SettingsData.{SettingsData}
 use Rattle.sky_units.specs.declared.setting_names.SetError.TheVariants.{Late}
-use Rattle.window_incr.specs.LinkerState.{LinkerState, LinkerData, after_setting, under}
+use Rattle.window_incr.specs.LinkerState.{LinkerState, after_setting, under}
 use Rattle.window_incr.proofs.state.Linker.set.Goals as goal
 
 late_is : (s : LinkerState) (name : List ℕ) (value : ℤ) (settings : SettingsData) (window : ℤ × ℤ) → set_named name value s.settings ≡ Ok settings → s.log.window ≡ Some window → after_setting name value s ≡ Err Late

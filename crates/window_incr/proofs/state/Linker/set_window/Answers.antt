@@ -4,8 +4,8 @@ use mir.Val.{SFits}
 use Rattle.exposure_log.specs.Held.{LogData, window_refusal, moved}
 use Rattle.exposure_log.proofs.Keeping.{moving_keeps_order}
 use Rattle.window_incr.specs.LinkerState.{LinkerState}
-use Rattle.window_incr.specs.KeptNights.{nights_of}
-use Rattle.window_incr.proofs.Renewing.{moved_nights}
+use Rattle.kept_nights.specs.KeptNights.{nights_of}
+use Rattle.kept_nights.proofs.KeptNights.{moved_nights}
 use Rattle.window_incr.proofs.state.Linker.set_window.Goals as goal
 
 pub returns-in_err-check_window-clause-answer : goal.returns-in_err-check_window-clause-answer

@@ -1,7 +1,33 @@
-use Rattle.std.proofs.Common.{◌∙◌}
+use Rattle.std.proofs.Common.{List, length, sym, ap, subst, ◌∙◌, arith}
+use Rattle.std.specs.List.{sum_by}
+use Rattle.sky_units.specs.TrackletData.{NightTracklets}
+use Rattle.sky_units.specs.Tracks.{AreMaximalTracks, AreNights}
+use Rattle.night_tree.specs.Nights.{NightData, tracklets_of_each}
+use Rattle.window_incr.specs.LinkerState.{LinkerState}
+use Rattle.kept_nights.proofs.HeldNights.{in_order_follow}
+use Rattle.window_incr.proofs.ReportLists.{some_listed}
 use Rattle.window_incr.proofs.Valid.{few_kept}
 use Rattle.window_incr.proofs.state.Linker.stats.Goals as goal
+
+pub maximal_tracks-requires : goal.maximal_tracks-requires
+maximal_tracks-requires c =
+    let s : LinkerState = record { settings = c.self.inside.settings; log = c.self.inside.log } in
+    subst AreNights (sym (ap tracklets_of_each (c.as_slice.ensures.value ∙ c.self.invariant.2))) (in_order_follow s c.window.ensures.orderly)
 
 pub tracklet_count-requires : goal.tracklet_count-requires
 tracklet_count-requires c =
     few_kept (record { settings = c.self.inside.settings; log = c.self.inside.log }) c.as_slice-2.result.now c.window.ensures.orderly (c.as_slice-2.ensures.value ∙ c.self.invariant.2)
+
+pub returns : goal.returns
+returns c =
+    let s : LinkerState = record { settings = c.self.inside.settings; log = c.self.inside.log } in
+    let nights = ap tracklets_of_each (c.as_slice.ensures.value ∙ c.self.invariant.2) in
+    let found = some_listed s c.in_ok-tracks.tracks.items record { shift = c.self.invariant.0; orderly = c.window.ensures.orderly } (subst (λ (nights : List NightTracklets). AreMaximalTracks s.settings nights c.in_ok-tracks.tracks.items) nights c.in_ok-tracks.ensures) in
+    rw (← c.self.view_is) (record {
+      exposures = c.exposures.ensures;
+      detections = c.detections.ensures;
+      tracklets = c.tracklet_count.ensures ∙ ap (λ (nights : List NightData). sum_by (λ (night : NightTracklets). length night) (tracklets_of_each nights)) (c.as_slice-2.ensures.value ∙ c.self.invariant.2);
+      list = found.ordered;
+      is_list = found.is_list;
+      tracks = omega (arith, c.len.ensures, c.in_ok-tracks.tracks.ok, found.as_many);
+    })

@@ -1,0 +1,13 @@
+pub mod Counting
+pub mod Found
+pub mod Listed
+pub mod NewNodes
+pub mod OwnBoxes
+pub mod PairsOf
+pub mod Places
+pub mod Runs
+pub mod Smaller
+pub mod Sorting
+pub mod TripleOrder
+pub mod TriplesOf
+pub mod TupleOrder

@@ -1,0 +1,7 @@
+pub mod Boxes
+pub mod Counts
+pub mod Joins
+pub mod Meeting
+pub mod Nodes
+pub mod Orders
+pub mod Trees

@@ -1,0 +1,3 @@
+pub mod HeldNights
+pub mod KeptNights
+pub mod WithNight

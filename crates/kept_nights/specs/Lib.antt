@@ -1,0 +1,3 @@
+pub mod KeptNights
+pub mod LinkerState
+pub mod Soundness

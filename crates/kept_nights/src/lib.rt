@@ -1,0 +1,9 @@
+//! The nights that a linker keeps: one for each night with held exposures, with exactly the tracklets
+//! of its held detections. An exposure that comes renews its own night and no other.
+#![tactic(auto)]
+
+pub use keeping::{forget_before, night_of_number, renew_or_remove};
+
+mod keeping;
+#[cfg(test)]
+mod tests;

@@ -1,0 +1,4 @@
+pub mod Drawing
+pub mod Moving
+pub mod Naming
+pub mod Holding

@@ -1,0 +1,5 @@
+pub mod Draws
+pub mod Motions
+pub mod Sightings
+pub mod MadeSky
+pub mod Examples

@@ -1,0 +1,12 @@
+pub mod Alternations
+pub mod Certifying
+pub mod Climbs
+pub mod FoursAt
+pub mod Fractions
+pub mod Named
+pub mod Parts
+pub mod Places
+pub mod Searching
+pub mod Suffices
+pub mod Tells
+pub mod Terms

@@ -1,0 +1,4 @@
+pub mod Certificates
+pub mod Coefficients
+pub mod Laws
+pub mod Searches
