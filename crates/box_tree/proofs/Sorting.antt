@@ -9,41 +9,7 @@ use Rattle.std.specs.declared.cmp.Ordering.TheVariants.{Less, Equal, Greater}
 use Rattle.std.proofs.lemmas.Bool.{cases_order}
 use Rattle.std.proofs.lemmas.Bool.Decides.{nat_tests}
 use Rattle.std.proofs.lemmas.List.Elements.{All-nil, All-cons, All-head, All-tail, All-append, All-contains, All-from_recursion, All-map, All-weaker, Contains-append_cases, Contains-append_left, Contains-append_right, Contains-push, Contains-push_cases, recursion_from_All}
-
-pub in_none : {X : Type 0} → (x : X) → Contains [] x → ⊥
-in_none x h = let less = h.1 in omega arith
-
-pub in_front : {X : Type 0} → (x : X) (xs : List X) → Contains (x ∷ xs) x
-in_front x xs = Contains-append_left (x ∷ []) xs x (Contains-push [] x)
-
-pub in_rest : {X : Type 0} → (x : X) (xs : List X) (y : X) → Contains xs y → Contains (x ∷ xs) y
-in_rest x xs y c = Contains-append_right (x ∷ []) xs y c
-
-pub front_or_rest : {X : Type 0} → (x : X) (xs : List X) (y : X) → Contains (x ∷ xs) y → (x ≡ y) ⊎ Contains xs y
-front_or_rest x xs y c = elim (Contains-append_cases (x ∷ []) xs y c) [
-  | inl d ↦ elim (Contains-push_cases [] x y d) [ inl f ↦ absurd (in_none y f) | inr e ↦ inl e ]
-  | inr d ↦ inr d
-]
-
-module _ {X : Type 0} (p : X → Bool) where
-  pub in_filter : (xs : List X) (x : X) → Contains xs x → p x ≡ true → Contains (filter p xs) x
-  in_filter [] x c h = absurd (in_none x c)
-  in_filter (y ∷ ys) x c h = elim (front_or_rest y ys x c) [
-    | inl e ↦
-        let here : p y ≡ true = subst (λ z. p z ≡ true) (sym e) h in
-        subst (λ b. Contains (cond b (y ∷ filter p ys) (filter p ys)) x) (sym here) (subst (Contains (y ∷ filter p ys)) e (in_front y (filter p ys)))
-    | inr d ↦ elim (p y) as (λ b. Contains (cond b (y ∷ filter p ys) (filter p ys)) x) [
-      | true ↦ in_rest y (filter p ys) x (in_filter ys x d h)
-      | false ↦ in_filter ys x d h
-    ]
-  ]
-
-pub in_map : {X Y : Type 0} (f : X → Y) (xs : List X) (x : X) → Contains xs x → Contains (map f xs) (f x)
-in_map f [] x c = absurd (in_none x c)
-in_map f (y ∷ ys) x c = elim (front_or_rest y ys x c) [
-  | inl e ↦ subst (λ z. Contains (f y ∷ map f ys) (f z)) e (in_front (f y) (map f ys))
-  | inr d ↦ in_rest (f y) (map f ys) (f x) (in_map f ys x d)
-]
+pub use Rattle.sky_units.proofs.Members.{front_or_rest, in_filter, in_front, in_map, in_none, in_rest}
 
 pub in_flat_map : {X Y : Type 0} (f : X → List Y) (xs : List X) (x : X) (y : Y) → Contains xs x → Contains (f x) y → Contains (flat_map f xs) y
 in_flat_map f [] x y c h = absurd (in_none x c)

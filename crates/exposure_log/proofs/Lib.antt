@@ -24,3 +24,5 @@ pub mod Joined
 pub mod Unrefused
 pub mod Keeping
 pub mod Holding
+pub mod Delivered
+pub mod OneEpoch

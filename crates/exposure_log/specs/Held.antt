@@ -8,6 +8,7 @@ use Rattle.std.specs.declared.cmp.Ordering.{Ordering}
 use Rattle.std.specs.declared.cmp.Ordering.TheVariants.{Less, Greater}
 use Rattle.std.specs.Ordering.{int_cmp, int_eq, nat_cmp, ordering_then, is_lt, is_eq, is_gt}
 use Rattle.std.specs.Cmp.Lexicographic.{pointwise, slice_cmp}
+use Rattle.sky_math.specs.Lists.{EachTwo}
 use Rattle.sky_math.specs.Night.{night_at}
 use Rattle.sky_units.specs.Limits.{most_nights}
 use Rattle.sky_units.specs.SpotData.{SpotData}
@@ -144,6 +145,10 @@ spot_of d = record { num = d.0; epoch = d.1.epoch; ra = d.1.ra; dec = d.1.dec }
 -- the spots of a night, in canonical order
 abbrev pub spots_of_night : LogData → ℤ → List SpotData
 spots_of_night log night = map spot_of (detections_of (of_night log.night_shift night log.exposures))
+
+-- the held exposures of a night are all of one epoch
+abbrev pub AreOfOneEpoch : LogData → ℤ → Type 0
+AreOfOneEpoch log night = EachTwo (λ (x y : HeldExposure). x.epoch ≡ y.epoch) (of_night log.night_shift night log.exposures)
 
 -- an answer that is Ok where nothing refuses, and names the cause where something does
 abbrev pub IsAnsweredAs : {T E : Type 0} → Option E → Result T E → Type 0

@@ -7,3 +7,4 @@ pub mod Gathered
 pub mod HandedBack
 pub mod Deliveries
 pub mod Laws
+pub mod Outcomes

@@ -5,6 +5,7 @@ pub use errors::{AddError, NotHeld, WindowError};
 pub use exposures::{Exposure, gather};
 pub use laws::{add_exists, add_is_unique, exposures_are_unique, exposures_exist};
 pub use log::ExposureLog;
+pub use outcomes::{Outcome, hold_all, take_out_all};
 
 mod canonical;
 mod errors;
@@ -13,5 +14,6 @@ mod laws;
 mod log;
 mod nights;
 mod numbered;
+mod outcomes;
 #[cfg(test)]
 mod tests;

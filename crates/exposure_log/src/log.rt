@@ -1,5 +1,5 @@
 //! The log of held exposures.
-ghost use Rattle.std.specs.Prelude.{◌≡◌, ◌≢◌, ℕ, ℤ, ◌+◌, ◌^◌, ◌<◌, ◌≤◌, ◌<ℤ◌, pos, neg_ℤ, [], None, Some, IsSome, IsTrue, IfOk, IfErr, OnErr, OnOk, ◌++◌, List, length, map, nat_le, nat_lt, option_copied};
+ghost use Rattle.std.specs.Prelude.{◌≡◌, ◌≢◌, ℕ, ℤ, ◌+◌, ◌^◌, ◌<◌, ◌≤◌, ◌<ℤ◌, pos, neg_ℤ, [], None, Some, IsSome, IsTrue, IfOk, IfErr, OnErr, OnOk, ◌++◌, ◌↔◌, List, length, map, nat_le, nat_lt, option_copied};
 ghost use Rattle.std.specs.List.{All, list_any};
 ghost use Rattle.sky_math.specs.Night.{night_at};
 ghost use Rattle.std.specs.Ordering.{is_lt};
@@ -11,7 +11,7 @@ ghost use Rattle.exposure_log.specs.Numbered.{AreListed, entries_of, exposure_of
 ghost use Rattle.exposure_log.specs.Nights.{listed_of, IsPlaceFor};
 ghost use Rattle.exposure_log.specs.declared.numbered.NumberedExposure.{NumberedExposure};
 ghost use Rattle.exposure_log.specs.Exposures.{IsExposure, IdsDontFall};
-ghost use Rattle.exposure_log.specs.Held.{LogData, TakesIn, IsAnsweredAs, refusal, held_refusal, room_refusal, first_taken as first_taken_of, held_at, detections_of, stands_at, without_exposure, from_night, window_refusal, moved, spots_of_night, spot_of, of_night, most_of_a_night, most_detections};
+ghost use Rattle.exposure_log.specs.Held.{LogData, TakesIn, IsAnsweredAs, refusal, held_refusal, room_refusal, first_taken as first_taken_of, held_at, detections_of, stands_at, without_exposure, from_night, window_refusal, moved, spots_of_night, spot_of, of_night, most_of_a_night, most_detections, AreOfOneEpoch};
 ghost use Rattle.exposure_log.specs.HandedBack.{IsHandedBack};
 ghost use Rattle.exposure_log.specs.Orderly.{IsOrderly};
 ghost use Rattle.exposure_log.specs.declared.errors.AddError.TheVariants.{NoMemory as no_memory};
@@ -20,7 +20,7 @@ use crate::canonical::compare;
 use crate::errors::{AddError, NotHeld, WindowError};
 use crate::exposures::Exposure;
 use crate::nights::{HeldNights, NightPlace};
-use crate::numbered::{NumberedExposure, let_go_listed, search};
+use crate::numbered::{NumberedExposure, are_of_one_epoch, let_go_listed, search};
 use miti_text::Detection;
 use number_register::{Register, let_go_all, take_all};
 use sky_units::{MOST_NIGHTS, NoMemory, Spot, night_of};
@@ -277,6 +277,13 @@ impl ExposureLog {
         self.window = Some((lo, hi));
     }
 
+    /// Whether all held exposures of a night are of one epoch. Then no two of its spots are a pair.
+    pub fn is_of_one_epoch(&self, night: i64) -> bool
+        ensures { IsTrue result ↔ AreOfOneEpoch self.now night }
+    {
+        are_of_one_epoch(self.nights.of_night(night))
+    }
+
     /// The spots of a night in canonical order, each with its number as its label.
     pub fn night(&self, night: i64) -> Result<Vec<Spot>, NoMemory>
         ensures { IfOk result (λ spots. spots.items ≡ spots_of_night self.now night) }
@@ -392,7 +399,7 @@ fn spots_of(
     Ok(spots)
 }
 
-/// TakesIn the spots of the detections of these numbers.
+/// Adds the spots of the detections of these numbers.
 fn push_spots(spots: &mut Vec<Spot>, register: &Register, numbers: &[u32]) -> Result<(), NoMemory>
     ensures { OnOk result (spots.new.items ≡ spots.old.items
         ++ map spot_of (entries_of register.now numbers.now)) }

@@ -1,9 +1,11 @@
 //! A held exposure by the numbers of its detections.
-ghost use Rattle.std.specs.Prelude.{◌≡◌, ◌≢◌, ◌==◌, ℕ, ◌+◌, ◌^◌, ◌<◌, ◌≤◌, [], cond, None, Some, IsSome, IfOk, IfErr, OnErr, length, slice_index, slice_index_or};
+ghost use Rattle.std.specs.Prelude.{◌≡◌, ◌≢◌, ◌==◌, ℕ, ◌+◌, ◌^◌, ◌<◌, ◌≤◌, [], cond, None, Some, IsSome, IsTrue, ◌↔◌, IfOk, IfErr, OnErr, length, slice_index, slice_index_or};
 ghost use Rattle.std.specs.Vec.{vec_len, vec_capacity};
 ghost use Rattle.std.specs.List.{All, insert as insert_at, list_any, sum_by};
 ghost use Rattle.std.specs.List.Sorted.{IsPartitionPoint};
+ghost use Rattle.std.specs.Ordering.{int_eq};
 ghost use Rattle.std.specs.declared.cmp.Ordering.TheVariants.{Less, Equal, Greater};
+ghost use Rattle.sky_math.specs.Lists.{EachTwo};
 ghost use Rattle.miti_text.specs.Observation.{Observation};
 ghost use Rattle.number_register.specs.Numbering.{slot, count_held};
 ghost use Rattle.exposure_log.specs.declared.numbered.NumberedExposure.{NumberedExposure};
@@ -31,6 +33,13 @@ impl NumberedExposure {
             .cmp(&epoch)
             .then_with(|| self.site.bytes().cmp(site))
     }
+
+    /// Whether the exposure is of the epoch of another one.
+    fn is_of_epoch_of(&self, other: &NumberedExposure) -> bool
+        ensures { result ≡ int_eq self.now.epoch other.now.epoch }
+    {
+        self.epoch == other.epoch
+    }
 }
 
 /// The place of the exposure of this epoch and site, or the place where it would stand.
@@ -43,6 +52,20 @@ pub(crate) fn search(listed: &[NumberedExposure], epoch: i64, site: &[u8]) -> Re
         (λ g. numbered_cmp epoch site.now g ≡ Greater) listed.now i) }
 {
     listed.binary_search_by(|numbered| numbered.compare(epoch, site))
+}
+
+/// Whether exposures in order are all of one epoch.
+pub(crate) fn are_of_one_epoch(listed: &[NumberedExposure]) -> bool
+    requires { RiseStrictly listed.now }
+    ensures { IsTrue result ↔
+        EachTwo (λ (g h : NumberedExposure). g.epoch ≡ h.epoch) listed.now }
+{
+    if listed.is_empty() {
+        return true;
+    }
+    let first = &listed[0];
+    let last = &listed[listed.len() - 1];
+    first.is_of_epoch_of(last)
 }
 
 /// Inserts the exposure at a place, for which there is room.

@@ -188,3 +188,29 @@ fn held_by_value(rt: HostRuntime) -> Result<(), NoMemory> {
     assert!(rt; log.detections() == 2);
     Ok(())
 }
+
+#[test]
+fn nights_of_one_epoch(rt: HostRuntime) -> Result<(), NoMemory> {
+    let alloc = rt.alloc();
+    let mut log = ExposureLog::new(alloc, 0)?;
+    moved(&mut log, 59_000, 59_002);
+    let lines = "a 59000.25 1 5 20 568 o\nb 59000.25 1 5 20 F51 o\nc 59001.25 1 5 20 568 o";
+    answers(&mut log, alloc, lines)?;
+    assert!(rt; log.is_of_one_epoch(59_000));
+    answers(&mut log, alloc, "d 59000.27 1 5 20 568 o")?;
+    assert!(rt; !log.is_of_one_epoch(59_000));
+    Ok(())
+}
+
+#[test]
+fn held_together(rt: HostRuntime) -> Result<(), NoMemory> {
+    let alloc = rt.alloc();
+    let mut log = ExposureLog::new(alloc, 0)?;
+    moved(&mut log, 59_000, 59_002);
+    let lines = "a 59000.25 1 5 20 568 o\nb 59001.25 1 5 20 568 o\nc 59003.25 1 5 20 568 o";
+    let exposures = exposures_of(alloc, lines)?;
+    let held = hold_all(alloc, &mut log, exposures)?.len();
+    assert_eq!(rt; held, 3);
+    assert_eq!(rt; log.detections(), 2);
+    Ok(())
+}

@@ -30,13 +30,14 @@ use Rattle.plain_tracks.proofs.Steps.{in_none}
 use Rattle.plain_tracks.proofs.Tracks.{filter_exact}
 use Rattle.kept_nights.specs.LinkerState.{LinkerState}
 use Rattle.kept_nights.specs.KeptNights.{nights_in, is_held_night, held_nights, night_data, nights_of, with_night, RiseByNumber}
+use Rattle.kept_nights.specs.Renewed.{IsNightOf}
 use Rattle.kept_nights.proofs.HeldNights.{nights_rise}
 use Rattle.kept_nights.proofs.WithNight.{IsBefore, still_rise, with_members}
 
-abbrev is_in : ℤ → ℤ → HeldExposure → Bool
+abbrev pub is_in : ℤ → ℤ → HeldExposure → Bool
 is_in shift night x = int_eq (night_at shift x.epoch) night
 
-in_it : (shift night : ℤ) (x : HeldExposure) → is_in shift night x ≡ true → night_at shift x.epoch ≡ night
+pub in_it : (shift night : ℤ) (x : HeldExposure) → is_in shift night x ≡ true → night_at shift x.epoch ≡ night
 in_it shift night x h = (Decides-int_eq (night_at shift x.epoch) night).0 h
 
 -- ---- a held night lies in the window
@@ -83,14 +84,10 @@ listed_is p None night c = absurd (in_none night c)
 listed_is p (Some window) night c = ((filter_exact p (nights_in window) night).0 c).1
 
 -- ---- which nights are kept
-member_of : (s : LinkerState) (night : ℤ) → IsOrderly s.log → is_held_night s.log night ≡ true → Contains (nights_of s) (night_data s night)
+pub member_of : (s : LinkerState) (night : ℤ) → IsOrderly s.log → is_held_night s.log night ≡ true → Contains (nights_of s) (night_data s night)
 member_of s night o h = in_mapped (night_data s) (held_nights s.log) night (listed (is_held_night s.log) s.log.night_shift s.log.window s.log.exposures night o.in_window h h)
 
--- what a kept night is
-abbrev IsNightOf : LinkerState → NightData → Type 0
-IsNightOf s kept = (is_held_night s.log kept.number ≡ true) × (kept ≡ night_data s kept.number)
-
-member_is : (s : LinkerState) (kept : NightData) → Contains (nights_of s) kept → IsNightOf s kept
+pub member_is : (s : LinkerState) (kept : NightData) → Contains (nights_of s) kept → IsNightOf s kept
 member_is s kept c =
     let w = of_mapped (night_data s) (held_nights s.log) kept c in
     subst (IsNightOf s) w.2 (listed_is (is_held_night s.log) s.log.window w.0 w.1, refl)
@@ -100,7 +97,7 @@ pub numbers_rise : (s : LinkerState) → RiseByNumber (nights_of s)
 numbers_rise s = each_two_map (λ (one later : NightData). one.number <ℤ later.number) (night_data s) (held_nights s.log) (nights_rise s.log)
 
 -- other nights of rising numbers, all of them held ones and with all held ones, are the same
-same_nights : (s : LinkerState) (nights : List NightData) → IsOrderly s.log → RiseByNumber nights → ((kept : NightData) → Contains nights kept → IsNightOf s kept) → ((night : ℤ) → is_held_night s.log night ≡ true → Contains nights (night_data s night)) → nights ≡ nights_of s
+pub same_nights : (s : LinkerState) (nights : List NightData) → IsOrderly s.log → RiseByNumber nights → ((kept : NightData) → Contains nights kept → IsNightOf s kept) → ((night : ℤ) → is_held_night s.log night ≡ true → Contains nights (night_data s night)) → nights ≡ nights_of s
 same_nights s nights o rise are all = same_members IsBefore (λ one later a b. omega (arith, ints, a, b)) nights (nights_of s) rise (numbers_rise s)
     (λ kept c. let h = are kept c in subst (Contains (nights_of s)) (sym h.1) (member_of s kept.number o h.0))
     (λ kept c. let h = member_is s kept c in subst (Contains nights) (sym h.1) (all kept.number h.0))
@@ -114,7 +111,7 @@ found_tracklets s night nights kept is e =
     let found = found_in (has_number night) (nights_of s) kept (rw is at e) in
     ap (λ (k : NightData). k.tracklets) ((member_is s kept found.0).1 ∙ ap (night_data s) ((Decides-int_eq kept.number night).0 found.1))
 
-of_no_spots : (c : SettingsData) → tracklets_of c [] ≡ []
+pub of_no_spots : (c : SettingsData) → tracklets_of c [] ≡ []
 of_no_spots c = elim (cases_Bool (int_eq c.stages (pos 1))) [
   | inl t ↦ rw t refl
   | inr f ↦ elim (cases_Bool (int_eq c.stages (pos 2))) [ inl t ↦ rw (f, t) refl | inr g ↦ rw (f, g) refl ]
@@ -131,11 +128,11 @@ no_tracklets s night nights o is e = elim (cases_Bool (is_held_night s.log night
 abbrev holding : LinkerState → Option (ℤ × ℤ) → List HeldExposure → LinkerState
 holding s window exposures = record { settings = s.settings; log = record { night_shift = s.log.night_shift; window = window; exposures = exposures } }
 
-same_data : (s : LinkerState) (kept : HeldExposure → Bool) (window : Option (ℤ × ℤ)) (night : ℤ) → ((x : HeldExposure) → is_in s.log.night_shift night x ≡ true → kept x ≡ true) → night_data (holding s window (filter kept s.log.exposures)) night ≡ night_data s night
+pub same_data : (s : LinkerState) (kept : HeldExposure → Bool) (window : Option (ℤ × ℤ)) (night : ℤ) → ((x : HeldExposure) → is_in s.log.night_shift night x ≡ true → kept x ≡ true) → night_data (holding s window (filter kept s.log.exposures)) night ≡ night_data s night
 same_data s kept window night h =
     ap (λ (xs : List HeldExposure). record { number = night; tracklets = tracklets_of s.settings (map spot_of (detections_of xs)) }) (filter_within (is_in s.log.night_shift night) kept s.log.exposures h)
 
-same_held : (s : LinkerState) (kept : HeldExposure → Bool) (window : Option (ℤ × ℤ)) (night : ℤ) → ((x : HeldExposure) → is_in s.log.night_shift night x ≡ true → kept x ≡ true) → is_held_night (holding s window (filter kept s.log.exposures)).log night ≡ is_held_night s.log night
+pub same_held : (s : LinkerState) (kept : HeldExposure → Bool) (window : Option (ℤ × ℤ)) (night : ℤ) → ((x : HeldExposure) → is_in s.log.night_shift night x ≡ true → kept x ≡ true) → is_held_night (holding s window (filter kept s.log.exposures)).log night ≡ is_held_night s.log night
 same_held s kept window night h = any-filter_same (is_in s.log.night_shift night) kept true h s.log.exposures
 
 -- ---- the window is moved
@@ -170,7 +167,7 @@ equal_means a b Less s m h = absurd (false≢true h)
 equal_means a b Equal s m h = m
 equal_means a b Greater s m h = absurd (false≢true h)
 
-at_epoch : (epoch : ℤ) (site : List ℕ) (x : HeldExposure) → stands_at epoch site x ≡ true → x.epoch ≡ epoch
+pub at_epoch : (epoch : ℤ) (site : List ℕ) (x : HeldExposure) → stands_at epoch site x ≡ true → x.epoch ≡ epoch
 at_epoch epoch site x h = equal_means x.epoch epoch (int_cmp x.epoch epoch) (slice_cmp nat_cmp x.site site) (int_ranked x.epoch epoch (int_cmp x.epoch epoch) refl) h
 
 -- what is held of another night than that of a place stands elsewhere

@@ -1,3 +1,5 @@
 pub mod HeldNights
 pub mod KeptNights
+pub mod OneEpoch
+pub mod Renewal
 pub mod WithNight

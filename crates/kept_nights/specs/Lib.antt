@@ -1,3 +1,4 @@
 pub mod KeptNights
 pub mod LinkerState
+pub mod Renewed
 pub mod Soundness

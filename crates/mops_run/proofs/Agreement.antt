@@ -1,5 +1,5 @@
 -- Each step has only one result: what is delivered, what a command does, and the replies to some lines.
-use Rattle.std.proofs.Common.{◌≡◌, ℕ, ℤ, ◌+◌, ◌++◌, List, [], ◌∷◌, sym, ◌∙◌, ap, subst}
+use Rattle.std.proofs.Common.{◌≡◌, ℕ, ℤ, pos, ◌+ℤ◌, ◌+◌, ◌++◌, List, [], ◌∷◌, sym, ◌∙◌, ap, subst}
 use Rattle.std.specs.Prelude.{Option, Some, None, MatchOption, MatchResult, Result, Ok, Err}
 use Rattle.miti_text.specs.Observation.{Observation}
 use Rattle.script_text.specs.declared.errors.ScriptError.{ScriptError}
@@ -21,6 +21,15 @@ use Rattle.mops_run.specs.Commands.{Obeys, Refuses}
 use Rattle.mops_run.specs.Lines.{said_by}
 use Rattle.mops_run.specs.Replies.{Replies, RepliesLast}
 use Rattle.mops_run.specs.Watch.{Answers, AnswersAll}
+use Rattle.mops_run.specs.declared.inputs.Input.{Input}
+use Rattle.mops_run.specs.declared.inputs.Input.TheVariants.{Script, Plain}
+use Rattle.mops_run.specs.Linking.{Links, LinksSome}
+use Rattle.mops_run.specs.Inputs.{RefusesAtOnce, RepliesIn, EndsIn}
+use Rattle.mops_run.specs.Summing.{IsSummary}
+use Rattle.made_sky.specs.MadeSky.{MadeSky, made_detections}
+use Rattle.sky_units.specs.declared.statistics.Stats.{Stats}
+use Rattle.window_incr.specs.Answers.{AreStats}
+use Rattle.mops_run.proofs.LeastNights.{least_night_is_unique}
 use Rattle.exposure_log.proofs.Delivering.{exposures_are_unique}
 use Rattle.exposure_log.proofs.LeastNumbers.{add_is_unique}
 use Rattle.window_incr.proofs.Agreement.{report_is_unique, stats_are_unique}
@@ -105,19 +114,60 @@ Replies-only n old (Refused error) p q s t a b = (a.0 ∙ sym b.0, a.1 ∙ sym b
 Replies-only n old (Asks command) p q s t a b = RepliesLast-only (Obeys command) (Obeys-only command) old p q s t a b
 Replies-only n old (Malformed error) p q s t a b = RepliesLast-only (Refuses n error) (Refuses-only n error) old p q s t a b
 
+-- and a line of either kind of input
+RefusesAtOnce-only : (n : ℕ) (old : State) (p q : List Reply) (s t : State) → RefusesAtOnce n old p s → RefusesAtOnce n old q t → (p ≡ q) × (s ≡ t)
+RefusesAtOnce-only n old p q s t a b = (a.0 ∙ sym b.0, a.1 ∙ sym b.1)
+
+RepliesIn-only : (kind : Input) (n : ℕ) (old : State) (said : Said) (p q : List Reply) (s t : State) → RepliesIn kind n old said p s → RepliesIn kind n old said q t → (p ≡ q) × (s ≡ t)
+RepliesIn-only Script n old said p q s t a b = Replies-only n old said p q s t a b
+RepliesIn-only Plain n old Nothing p q s t a b = Replies-only n old Nothing p q s t a b
+RepliesIn-only Plain n old (Waits d) p q s t a b = Replies-only n old (Waits d) p q s t a b
+RepliesIn-only Plain n old (Refused error) p q s t a b = Replies-only n old (Refused error) p q s t a b
+RepliesIn-only Plain n old (Asks command) p q s t a b = RefusesAtOnce-only n old p q s t a b
+RepliesIn-only Plain n old (Malformed error) p q s t a b = RefusesAtOnce-only n old p q s t a b
+
 -- so do some lines
-pub Answers-only : (n : ℕ) (old : State) (lines : List (List ℕ)) (p q : List Reply) (s t : State) → Answers n old lines p s → Answers n old lines q t → (p ≡ q) × (s ≡ t)
-Answers-only n old [] p q s t a b = (a.0 ∙ sym b.0, a.1 ∙ sym b.1)
-Answers-only n old (line ∷ lines) p q s t a b =
-    let now : (a.0 ≡ b.0) × (a.2 ≡ b.2) = Replies-only n old (said_by line) a.0 b.0 a.2 b.2 a.3 b.3 in
-    let other : Answers (n + 1) a.2 lines b.1 t = subst (λ (u : State). Answers (n + 1) u lines b.1 t) (sym now.1) b.4 in
-    let later : (a.1 ≡ b.1) × (s ≡ t) = Answers-only (n + 1) a.2 lines a.1 b.1 s t a.4 other in
+pub Answers-only : (kind : Input) (n : ℕ) (old : State) (lines : List (List ℕ)) (p q : List Reply) (s t : State) → Answers kind n old lines p s → Answers kind n old lines q t → (p ≡ q) × (s ≡ t)
+Answers-only kind n old [] p q s t a b = (a.0 ∙ sym b.0, a.1 ∙ sym b.1)
+Answers-only kind n old (line ∷ lines) p q s t a b =
+    let now : (a.0 ≡ b.0) × (a.2 ≡ b.2) = RepliesIn-only kind n old (said_by line) a.0 b.0 a.2 b.2 a.3 b.3 in
+    let other : Answers kind (n + 1) a.2 lines b.1 t = subst (λ (u : State). Answers kind (n + 1) u lines b.1 t) (sym now.1) b.4 in
+    let later : (a.1 ≡ b.1) × (s ≡ t) = Answers-only kind (n + 1) a.2 lines a.1 b.1 s t a.4 other in
     (a.5 ∙ ap (λ r. r ++ a.1) now.0 ∙ ap (λ r. b.0 ++ r) later.0 ∙ sym b.5, later.1)
 
+-- detections are linked in only one way
+LinksSome-only : (old : LinkerState) (ds : List Observation) (p q : List Reply) (s t : LinkerState) → LinksSome old ds p s → LinksSome old ds q t → (p ≡ q) × (s ≡ t)
+LinksSome-only old ds p q s t a b =
+    let night : b.night ≡ a.night = least_night_is_unique old.settings.night_shift ds b.night a.night b.least a.least in
+    let set : Obeys (Window a.night (a.night +ℤ pos 29)) old b.window b.between = subst (λ (n : ℤ). Obeys (Window n (n +ℤ pos 29)) old b.window b.between) night b.set in
+    let first : Same a.window b.window a.between b.between = Obeys-only (Window a.night (a.night +ℤ pos 29)) old a.window b.window a.between b.between a.set set in
+    let other : Delivers a.between ds b.delivered t = subst (λ (l : LinkerState). Delivers l ds b.delivered t) (sym first.1) b.delivery in
+    let rest : (a.delivered ≡ b.delivered) × (s ≡ t) = Delivers-only a.between ds a.delivered b.delivered s t a.delivery other in
+    (a.given_is ∙ ap (λ r. r ∷ a.delivered) first.0 ∙ ap (λ rs. b.window ∷ rs) rest.0 ∙ sym b.given_is, rest.1)
+
+pub Links-only : (old : LinkerState) (ds : List Observation) (p q : List Reply) (s t : LinkerState) → Links old ds p s → Links old ds q t → (p ≡ q) × (s ≡ t)
+Links-only old [] p q s t a b = (a.0 ∙ sym b.0, a.1 ∙ sym b.1)
+Links-only old (d ∷ ds) p q s t a b = LinksSome-only old (d ∷ ds) p q s t a b
+
+-- and so are the replies at the end
+pub EndsIn-only : (kind : Input) (old : State) (p q : List Reply) (s t : LinkerState) → EndsIn kind old p s → EndsIn kind old q t → (p ≡ q) × (s ≡ t)
+EndsIn-only Script old p q s t a b = Delivers-only old.linker old.waiting p q s t a b
+EndsIn-only Plain old p q s t a b =
+    let links : (a.linked ≡ b.linked) × (a.between ≡ b.between) = Links-only old.linker old.waiting a.linked b.linked a.between b.between a.links b.links in
+    let other : Obeys report_command a.between b.report t = subst (λ (l : LinkerState). Obeys report_command l b.report t) (sym links.1) b.reported in
+    let own : Same a.report b.report s t = Obeys-only report_command a.between a.report b.report s t a.reported other in
+    (a.given_is ∙ ap (λ r. a.linked ++ r ∷ []) own.0 ∙ ap (λ rs. rs ++ b.report ∷ []) links.0 ∙ sym b.given_is, own.1)
+
 -- and a whole input
-pub AnswersAll-only : (lines : List (List ℕ)) (p q : List Reply) → AnswersAll lines p → AnswersAll lines q → p ≡ q
-AnswersAll-only lines p q a b =
-    let front : (a.so_far ≡ b.so_far) × (a.state ≡ b.state) = Answers-only 1 start lines a.so_far b.so_far a.state b.state a.answers b.answers in
-    let other : Delivers a.state.linker a.state.waiting b.last b.linker = subst (λ (u : State). Delivers u.linker u.waiting b.last b.linker) (sym front.1) b.delivery in
-    let last : (a.last ≡ b.last) × (a.linker ≡ b.linker) = Delivers-only a.state.linker a.state.waiting a.last b.last a.linker b.linker a.delivery other in
+pub AnswersAll-only : (kind : Input) (lines : List (List ℕ)) (p q : List Reply) → AnswersAll kind lines p → AnswersAll kind lines q → p ≡ q
+AnswersAll-only kind lines p q a b =
+    let front : (a.so_far ≡ b.so_far) × (a.state ≡ b.state) = Answers-only kind 1 start lines a.so_far b.so_far a.state b.state a.answers b.answers in
+    let other : EndsIn kind a.state b.last b.linker = subst (λ (u : State). EndsIn kind u b.last b.linker) (sym front.1) b.ending in
+    let last : (a.last ≡ b.last) × (a.linker ≡ b.linker) = EndsIn-only kind a.state a.last b.last a.linker b.linker a.ending other in
     a.given_is ∙ ap (λ r. r ++ a.last) front.0 ∙ ap (λ r. b.so_far ++ r) last.0 ∙ sym b.given_is
+
+-- and the summary of a sky
+pub IsSummary-only : (sky : MadeSky) (one other : Stats) → IsSummary sky one → IsSummary sky other → one ≡ other
+IsSummary-only sky one other a b =
+    let links : (a.given ≡ b.given) × (a.linker ≡ b.linker) = Links-only start.linker (made_detections sky) a.given b.given a.linker b.linker a.links b.links in
+    stats_are_unique a.linker one other a.stats_are (subst (λ (l : LinkerState). AreStats l other) (sym links.1) b.stats_are)

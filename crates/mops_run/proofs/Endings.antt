@@ -12,20 +12,22 @@ use Rattle.outer_io.specs.declared.line_reader.ReadStop.TheVariants.{Failed, Too
 use Rattle.mops_run.specs.State.{State}
 use Rattle.mops_run.specs.Output.{text_of_all}
 use Rattle.mops_run.specs.Answering.{FailsToAnswer, Finished, FailsToFinish}
-use Rattle.mops_run.specs.Promise.{WritesAll, WritesFront, Watches, IsSpent, SourceFaults, SinkFaults, refused_by, done_status}
+use Rattle.mops_run.specs.Promise.{WritesAll, WritesFront, Reads, IsSpent, SourceFaults, SinkFaults, refused_by, done_status}
 use Rattle.mops_run.specs.declared.top.Status.{Status}
 use Rattle.mops_run.specs.declared.top.Status.TheVariants.{Done, DoneWithRefusals, Usage, ReadFault, WriteFault, NoMemory, InputTooLong}
-use Rattle.mops_run.proofs.SoFar.{SoFar, NextLine, WritesText-then, WritesFront-so_far, WritesFront-failed, WritesFront-unfinished, WritesFront-whole, WritesAll-end, Takes-within, Takes-too_long, or_true}
+use Rattle.mops_run.specs.declared.inputs.Input.{Input}
+use Rattle.mops_run.proofs.Receipts.{WritesText-then}
+use Rattle.mops_run.proofs.SoFar.{SoFar, NextLine, WritesFront-so_far, WritesFront-failed, WritesFront-unfinished, WritesFront-whole, WritesAll-end, Takes-within, Takes-too_long, or_true}
 
 -- a write failed in the middle of the replies to a line
-pub Watches-write_fault : (source_old : Supply) (reader reader' : Reading) (source source' : Supply) (sink_old sink sink' : Receipt) (number : ℕ) (state : State) (refused : Bool)
-    → SoFar source_old reader source sink_old sink number state refused → NextLine reader reader' source source'
-    → FailsToAnswer (number + 1) state reader'.line sink sink' → Watches WriteFault source_old source' sink_old sink'
-Watches-write_fault source_old reader reader' source source' sink_old sink sink' number state refused so next failed =
+pub Reads-write_fault : (kind : Input) (source_old : Supply) (reader reader' : Reading) (source source' : Supply) (sink_old sink sink' : Receipt) (number : ℕ) (state : State) (refused : Bool)
+    → SoFar kind source_old reader source sink_old sink number state refused → NextLine reader reader' source source'
+    → FailsToAnswer kind (number + 1) state reader'.line sink sink' → Reads kind WriteFault source_old source' sink_old sink'
+Reads-write_fault kind source_old reader reader' source source' sink_old sink sink' number state refused so next failed =
     let faults : sink.faults ≡ sink_old.faults = so.adds.faults in
     record {
       whole = tt;
-      front = WritesFront-failed source_old reader reader' source source' sink_old sink sink' number state refused so next failed;
+      front = WritesFront-failed kind source_old reader reader' source source' sink_old sink sink' number state refused so next failed;
       spent = tt;
       flushed = λ no. absurd no;
       source_faults = next.faults ∙ so.faults;
@@ -35,13 +37,13 @@ Watches-write_fault source_old reader reader' source source' sink_old sink sink'
     }
 
 -- memory was wanting for the replies to a line
-pub Watches-no_memory : (source_old : Supply) (reader reader' : Reading) (source source' : Supply) (sink_old sink sink' : Receipt) (number : ℕ) (state : State) (refused : Bool)
-    → SoFar source_old reader source sink_old sink number state refused → NextLine reader reader' source source'
-    → sink' ≡ sink → Watches NoMemory source_old source' sink_old sink'
-Watches-no_memory source_old reader reader' source source' sink_old sink sink' number state refused so next same = record {
+pub Reads-no_memory : (kind : Input) (source_old : Supply) (reader reader' : Reading) (source source' : Supply) (sink_old sink sink' : Receipt) (number : ℕ) (state : State) (refused : Bool)
+    → SoFar kind source_old reader source sink_old sink number state refused → NextLine reader reader' source source'
+    → sink' ≡ sink → Reads kind NoMemory source_old source' sink_old sink'
+Reads-no_memory kind source_old reader reader' source source' sink_old sink sink' number state refused so next same = record {
   whole = tt;
-  front = subst (λ (r : Receipt). IfSome source_old.left (λ input. WritesFront input sink_old r)) (sym same)
-      (WritesFront-so_far source_old reader source sink_old sink number state refused so);
+  front = subst (λ (r : Receipt). IfSome source_old.left (λ input. WritesFront kind input sink_old r)) (sym same)
+      (WritesFront-so_far kind source_old reader source sink_old sink number state refused so);
   spent = tt;
   flushed = λ no. absurd no;
   source_faults = next.faults ∙ so.faults;
@@ -51,15 +53,15 @@ Watches-no_memory source_old reader reader' source source' sink_old sink sink' n
 }
 
 -- a read failed behind the last whole line
-pub Watches-read_fault : (source_old : Supply) (reader reader' : Reading) (source source' : Supply) (sink_old sink : Receipt) (number : ℕ) (state : State) (refused : Bool)
-    (result : Result Got ReadStop) → SoFar source_old reader source sink_old sink number state refused → result ≡ Err Failed
+pub Reads-read_fault : (kind : Input) (source_old : Supply) (reader reader' : Reading) (source source' : Supply) (sink_old sink : Receipt) (number : ℕ) (state : State) (refused : Bool)
+    (result : Result Got ReadStop) → SoFar kind source_old reader source sink_old sink number state refused → result ≡ Err Failed
     → FaultsAfter result source.faults source'.faults → CountsOn reader reader' source source' → ((result ≡ Err TooLong) ↔ (reader'.took ≡ 2 ^ 32))
-    → Watches ReadFault source_old source' sink_old sink
-Watches-read_fault source_old reader reader' source source' sink_old sink number state refused result so is faults counts limit =
+    → Reads kind ReadFault source_old source' sink_old sink
+Reads-read_fault kind source_old reader reader' source source' sink_old sink number state refused result so is faults counts limit =
     let rises : Rises source.faults source'.faults = subst (λ (r : Result Got ReadStop). FaultsAfter r source.faults source'.faults) is faults in
     record {
       whole = tt;
-      front = WritesFront-so_far source_old reader source sink_old sink number state refused so;
+      front = WritesFront-so_far kind source_old reader source sink_old sink number state refused so;
       spent = tt;
       flushed = λ _. so.adds.whole;
       source_faults = subst (λ n. Rises n source'.faults) so.faults rises;
@@ -70,15 +72,15 @@ Watches-read_fault source_old reader reader' source source' sink_old sink number
     }
 
 -- a byte came behind as many as an input may have
-pub Watches-too_long : (source_old : Supply) (reader reader' : Reading) (source source' : Supply) (sink_old sink : Receipt) (number : ℕ) (state : State) (refused : Bool)
-    (result : Result Got ReadStop) → SoFar source_old reader source sink_old sink number state refused → result ≡ Err TooLong
+pub Reads-too_long : (kind : Input) (source_old : Supply) (reader reader' : Reading) (source source' : Supply) (sink_old sink : Receipt) (number : ℕ) (state : State) (refused : Bool)
+    (result : Result Got ReadStop) → SoFar kind source_old reader source sink_old sink number state refused → result ≡ Err TooLong
     → FaultsAfter result source.faults source'.faults → CountsOn reader reader' source source' → ((result ≡ Err TooLong) ↔ (reader'.took ≡ 2 ^ 32))
-    → Watches InputTooLong source_old source' sink_old sink
-Watches-too_long source_old reader reader' source source' sink_old sink number state refused result so is faults counts limit =
+    → Reads kind InputTooLong source_old source' sink_old sink
+Reads-too_long kind source_old reader reader' source source' sink_old sink number state refused result so is faults counts limit =
     let same : source'.faults ≡ source.faults = subst (λ (r : Result Got ReadStop). FaultsAfter r source.faults source'.faults) is faults in
     record {
       whole = tt;
-      front = WritesFront-so_far source_old reader source sink_old sink number state refused so;
+      front = WritesFront-so_far kind source_old reader source sink_old sink number state refused so;
       spent = tt;
       flushed = λ _. so.adds.whole;
       source_faults = same ∙ so.faults;
@@ -88,10 +90,10 @@ Watches-too_long source_old reader reader' source source' sink_old sink number s
     }
 
 -- the end was answered in this call or before
-spent-at_end : (source_old : Supply) (reader reader' : Reading) (source source' : Supply) (sink_old sink : Receipt) (number : ℕ) (state : State) (refused : Bool)
-    → SoFar source_old reader source sink_old sink number state refused → Ends reader reader' source source' → reader'.ended ≡ true
+spent-at_end : (kind : Input) (source_old : Supply) (reader reader' : Reading) (source source' : Supply) (sink_old sink : Receipt) (number : ℕ) (state : State) (refused : Bool)
+    → SoFar kind source_old reader source sink_old sink number state refused → Ends reader reader' source source' → reader'.ended ≡ true
     → (reader.ended ≡ true → source' ≡ source) → IsSpent source'
-spent-at_end source_old reader reader' source source' sink_old sink number state refused so ends ended over = cases reader.ended refl
+spent-at_end kind source_old reader reader' source source' sink_old sink number state refused so ends ended over = cases reader.ended refl
   where
     cases : (b : Bool) → reader.ended ≡ b → IsSpent source'
     cases true was = subst (λ (s : Supply). (s.ended ≡ true) × IsAtEnd s.left) (sym (over was)) (so.spent was)
@@ -105,34 +107,34 @@ pub record AtEnd (source_old : Supply) (reader reader' : Reading) (source source
   pub within : reader'.took ≡ 2 ^ 32 → ⊥
   pub spent : IsSpent source'
 
-pub AtEnd-from : (source_old : Supply) (reader reader' : Reading) (source source' : Supply) (sink_old sink : Receipt) (number : ℕ) (state : State) (refused : Bool)
-    (result : Result Got ReadStop) → SoFar source_old reader source sink_old sink number state refused → result ≡ Ok End
+pub AtEnd-from : (kind : Input) (source_old : Supply) (reader reader' : Reading) (source source' : Supply) (sink_old sink : Receipt) (number : ℕ) (state : State) (refused : Bool)
+    (result : Result Got ReadStop) → SoFar kind source_old reader source sink_old sink number state refused → result ≡ Ok End
     → (result ≡ Ok End → IfSome (ahead reader source) (λ bytes. bytes ≡ [])) → (result ≡ Ok End → reader'.ended ≡ true)
     → FaultsAfter result source.faults source'.faults → CountsOn reader reader' source source' → ((result ≡ Err TooLong) ↔ (reader'.took ≡ 2 ^ 32))
     → Ends reader reader' source source' → (reader.ended ≡ true → source' ≡ source) → AtEnd source_old reader reader' source source'
-AtEnd-from source_old reader reader' source source' sink_old sink number state refused result so is end answered faults counts limit ends over =
+AtEnd-from kind source_old reader reader' source source' sink_old sink number state refused result so is end answered faults counts limit ends over =
     let same : source'.faults ≡ source.faults = subst (λ (r : Result Got ReadStop). FaultsAfter r source.faults source'.faults) is faults in
     record {
       none_ahead = end is;
       faults = same ∙ so.faults;
       counts = counts;
       within = λ h. let long : result ≡ Err TooLong = limit.1 h in cc;
-      spent = spent-at_end source_old reader reader' source source' sink_old sink number state refused so ends (answered is) over;
+      spent = spent-at_end kind source_old reader reader' source source' sink_old sink number state refused so ends (answered is) over;
     }
 
 -- all was read and answered, by a status that says whether something was refused
-finished_by : (status : Status) (source_old : Supply) (reader reader' : Reading) (source source' : Supply) (sink_old sink sink' : Receipt) (number : ℕ) (state : State) (refused bad : Bool)
+finished_by : (kind : Input) (status : Status) (source_old : Supply) (reader reader' : Reading) (source source' : Supply) (sink_old sink sink' : Receipt) (number : ℕ) (state : State) (refused bad : Bool)
     → refused_by status ≡ Some (refused || bad) → (source'.faults ≡ source_old.faults → SourceFaults status source_old.faults source'.faults)
     → (sink'.faults ≡ sink_old.faults → SinkFaults status sink_old.faults sink'.faults) → (status ≡ InputTooLong → ⊥) → (status ≡ Usage → ⊥)
-    → SoFar source_old reader source sink_old sink number state refused → AtEnd source_old reader reader' source source' → Finished state sink sink' bad
-    → Watches status source_old source' sink_old sink'
-finished_by status source_old reader reader' source source' sink_old sink sink' number state refused bad by source_faults sink_faults not_long not_usage so over finished =
-    let whole : IfSome source_old.left (λ input. WritesAll input sink_old sink' (refused || bad)) =
-    WritesAll-end source_old reader source sink_old sink sink' number state refused bad so over.none_ahead finished in
+    → SoFar kind source_old reader source sink_old sink number state refused → AtEnd source_old reader reader' source source' → Finished kind state sink sink' bad
+    → Reads kind status source_old source' sink_old sink'
+finished_by kind status source_old reader reader' source source' sink_old sink sink' number state refused bad by source_faults sink_faults not_long not_usage so over finished =
+    let whole : IfSome source_old.left (λ input. WritesAll kind input sink_old sink' (refused || bad)) =
+    WritesAll-end kind source_old reader source sink_old sink sink' number state refused bad so over.none_ahead finished in
     let adds = WritesText-then sink_old sink sink' (text_of_all so.replies) (text_of_all finished.given) so.adds finished.says.adds in
     record {
       whole = rw by whole;
-      front = WritesFront-whole source_old.left sink_old sink' (refused || bad) whole;
+      front = WritesFront-whole kind source_old.left sink_old sink' (refused || bad) whole;
       spent = rw by over.spent;
       flushed = λ _. adds.whole;
       source_faults = source_faults over.faults;
@@ -142,24 +144,24 @@ finished_by status source_old reader reader' source source' sink_old sink sink' 
     }
 
 -- all was read and answered
-pub Watches-done : (source_old : Supply) (reader reader' : Reading) (source source' : Supply) (sink_old sink sink' : Receipt) (number : ℕ) (state : State) (refused bad : Bool)
-    → SoFar source_old reader source sink_old sink number state refused → AtEnd source_old reader reader' source source' → Finished state sink sink' bad
-    → Watches (done_status (refused || bad)) source_old source' sink_old sink'
-Watches-done source_old reader reader' source source' sink_old sink sink' number state refused bad so over finished = cases (refused || bad) refl
+pub Reads-done : (kind : Input) (source_old : Supply) (reader reader' : Reading) (source source' : Supply) (sink_old sink sink' : Receipt) (number : ℕ) (state : State) (refused bad : Bool)
+    → SoFar kind source_old reader source sink_old sink number state refused → AtEnd source_old reader reader' source source' → Finished kind state sink sink' bad
+    → Reads kind (done_status (refused || bad)) source_old source' sink_old sink'
+Reads-done kind source_old reader reader' source source' sink_old sink sink' number state refused bad so over finished = cases (refused || bad) refl
   where
-    cases : (b : Bool) → (refused || bad) ≡ b → Watches (done_status b) source_old source' sink_old sink'
-    cases true is = finished_by DoneWithRefusals source_old reader reader' source source' sink_old sink sink' number state refused bad (ap Some (sym is)) (λ e. e) (λ e. e) (λ h. cc) (λ h. cc) so over finished
-    cases false is = finished_by Done source_old reader reader' source source' sink_old sink sink' number state refused bad (ap Some (sym is)) (λ e. e) (λ e. e) (λ h. cc) (λ h. cc) so over finished
+    cases : (b : Bool) → (refused || bad) ≡ b → Reads kind (done_status b) source_old source' sink_old sink'
+    cases true is = finished_by kind DoneWithRefusals source_old reader reader' source source' sink_old sink sink' number state refused bad (ap Some (sym is)) (λ e. e) (λ e. e) (λ h. cc) (λ h. cc) so over finished
+    cases false is = finished_by kind Done source_old reader reader' source source' sink_old sink sink' number state refused bad (ap Some (sym is)) (λ e. e) (λ e. e) (λ h. cc) (λ h. cc) so over finished
 
 -- a write failed in the middle of the replies of what waited at the end
-pub Watches-unfinished : (source_old : Supply) (reader reader' : Reading) (source source' : Supply) (sink_old sink sink' : Receipt) (number : ℕ) (state : State) (refused : Bool)
-    → SoFar source_old reader source sink_old sink number state refused → AtEnd source_old reader reader' source source' → FailsToFinish state sink sink'
-    → Watches WriteFault source_old source' sink_old sink'
-Watches-unfinished source_old reader reader' source source' sink_old sink sink' number state refused so over failed =
+pub Reads-unfinished : (kind : Input) (source_old : Supply) (reader reader' : Reading) (source source' : Supply) (sink_old sink sink' : Receipt) (number : ℕ) (state : State) (refused : Bool)
+    → SoFar kind source_old reader source sink_old sink number state refused → AtEnd source_old reader reader' source source' → FailsToFinish kind state sink sink'
+    → Reads kind WriteFault source_old source' sink_old sink'
+Reads-unfinished kind source_old reader reader' source source' sink_old sink sink' number state refused so over failed =
     let faults : sink.faults ≡ sink_old.faults = so.adds.faults in
     record {
       whole = tt;
-      front = WritesFront-unfinished source_old reader source sink_old sink sink' number state refused so over.none_ahead failed;
+      front = WritesFront-unfinished kind source_old reader source sink_old sink sink' number state refused so over.none_ahead failed;
       spent = tt;
       flushed = λ no. absurd no;
       source_faults = over.faults;
@@ -169,13 +171,13 @@ Watches-unfinished source_old reader reader' source source' sink_old sink sink' 
     }
 
 -- memory was wanting for these
-pub Watches-no_memory_left : (source_old : Supply) (reader reader' : Reading) (source source' : Supply) (sink_old sink sink' : Receipt) (number : ℕ) (state : State) (refused : Bool)
-    → SoFar source_old reader source sink_old sink number state refused → AtEnd source_old reader reader' source source' → sink' ≡ sink
-    → Watches NoMemory source_old source' sink_old sink'
-Watches-no_memory_left source_old reader reader' source source' sink_old sink sink' number state refused so over same = record {
+pub Reads-no_memory_left : (kind : Input) (source_old : Supply) (reader reader' : Reading) (source source' : Supply) (sink_old sink sink' : Receipt) (number : ℕ) (state : State) (refused : Bool)
+    → SoFar kind source_old reader source sink_old sink number state refused → AtEnd source_old reader reader' source source' → sink' ≡ sink
+    → Reads kind NoMemory source_old source' sink_old sink'
+Reads-no_memory_left kind source_old reader reader' source source' sink_old sink sink' number state refused so over same = record {
   whole = tt;
-  front = subst (λ (r : Receipt). IfSome source_old.left (λ input. WritesFront input sink_old r)) (sym same)
-      (WritesFront-so_far source_old reader source sink_old sink number state refused so);
+  front = subst (λ (r : Receipt). IfSome source_old.left (λ input. WritesFront kind input sink_old r)) (sym same)
+      (WritesFront-so_far kind source_old reader source sink_old sink number state refused so);
   spent = tt;
   flushed = λ no. absurd no;
   source_faults = over.faults;

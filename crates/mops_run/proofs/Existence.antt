@@ -1,5 +1,5 @@
 -- Each list of lines has a list of replies, since nights have a report list.
-use Rattle.std.proofs.Common.{◌≡◌, ℕ, ℤ, ◌+◌, ◌++◌, List, [], ◌∷◌, length, refl, ap, ◌∙◌, if◌then◌else◌, rules}
+use Rattle.std.proofs.Common.{◌≡◌, ℕ, ℤ, pos, ◌+ℤ◌, ◌+◌, ◌++◌, List, [], ◌∷◌, length, refl, ap, ◌∙◌, if◌then◌else◌, rules}
 use Rattle.std.specs.Prelude.{Option, Some, None, is_some, IfOk, IsTrue, MatchOption, MatchResult, Result, Ok, Err}
 use Rattle.std.specs.List.{All, flat_map}
 use Rattle.std.proofs.lemmas.List.Elements.{All-nil, All-cons, All-head, All-tail, All-append}
@@ -31,7 +31,13 @@ use Rattle.mops_run.specs.declared.lines.Command.{Command}
 use Rattle.mops_run.specs.declared.lines.Command.TheVariants.{Set, Window, Tracklets, Report as report_command, Stats as stats_command}
 use Rattle.mops_run.specs.Commands.{Obeys, Refuses}
 use Rattle.mops_run.specs.Lines.{said_by}
-use Rattle.mops_run.specs.Replies.{Replies, RepliesLast}
+use Rattle.mops_run.specs.Replies.{RepliesLast}
+use Rattle.script_text.specs.declared.errors.ScriptError.TheVariants as causes
+use Rattle.mops_run.specs.declared.inputs.Input.{Input}
+use Rattle.mops_run.specs.declared.inputs.Input.TheVariants.{Script, Plain}
+use Rattle.mops_run.specs.Linking.{Links, LinksSome}
+use Rattle.mops_run.specs.Inputs.{RepliesIn, EndsIn}
+use Rattle.mops_run.proofs.LeastNights.{least_night_exists}
 use Rattle.mops_run.specs.Watch.{Answers, AnswersAll}
 use Rattle.mops_run.proofs.Numbers.{HasIdRule, line_ids}
 use Rattle.mops_run.proofs.SettingsKept.{set_in_range}
@@ -157,11 +163,11 @@ refused n error old s = record { given = replies.Script n error; new = old; lead
 -- ---- a line, and some lines
 
 -- the replies to a line, and what they lead to
-record Turns (n : ℕ) (old : LinkerState) (waiting : List Observation) (said : Said) : Type 0 where
+record Turns (kind : Input) (n : ℕ) (old : LinkerState) (waiting : List Observation) (said : Said) : Type 0 where
   given : List Reply
   new : LinkerState
   still : List Observation
-  turns : Replies n (state_of old waiting) said given (state_of new still)
+  turns : RepliesIn kind n (state_of old waiting) said given (state_of new still)
   ids : All HasId still
   proper : IsProper new
 
@@ -183,31 +189,43 @@ turns_last Own owned old waiting ids s =
       proper = own.proper;
     }
 
-line_turns : ReportExists → StatsExist → (n : ℕ) (old : LinkerState) (waiting : List Observation) (said : Said) → HasIdRule said → All HasId waiting → IsProper old → Turns n old waiting said
-line_turns reports stats n old waiting Nothing rule ids s = record { given = []; new = old; still = waiting; ids = ids; turns = (refl, refl); proper = s }
-line_turns reports stats n old waiting (Waits d) rule ids s = record { given = []; new = old; still = waiting ++ d ∷ []; ids = All-append HasId waiting (d ∷ []) ids (All-cons HasId d [] rule (All-nil HasId)); turns = (refl, refl); proper = s }
-line_turns reports stats n old waiting (Refused error) rule ids s = record { given = replies.Line n error ∷ []; new = old; still = waiting; ids = ids; turns = (refl, refl); proper = s }
-line_turns reports stats n old waiting (Asks command) rule ids s =
+script_turns : ReportExists → StatsExist → (n : ℕ) (old : LinkerState) (waiting : List Observation) (said : Said) → HasIdRule said → All HasId waiting → IsProper old → Turns Script n old waiting said
+script_turns reports stats n old waiting Nothing rule ids s = record { given = []; new = old; still = waiting; ids = ids; turns = (refl, refl); proper = s }
+script_turns reports stats n old waiting (Waits d) rule ids s = record { given = []; new = old; still = waiting ++ d ∷ []; ids = All-append HasId waiting (d ∷ []) ids (All-cons HasId d [] rule (All-nil HasId)); turns = (refl, refl); proper = s }
+script_turns reports stats n old waiting (Refused error) rule ids s = record { given = replies.Line n error ∷ []; new = old; still = waiting; ids = ids; turns = (refl, refl); proper = s }
+script_turns reports stats n old waiting (Asks command) rule ids s =
     let last : TurnsLast (Obeys command) old waiting = turns_last (Obeys command) (obeyed reports stats command) old waiting ids s in
     record { given = last.given; new = last.new; still = []; ids = All-nil HasId; turns = last.turns; proper = last.proper }
-line_turns reports stats n old waiting (Malformed error) rule ids s =
+script_turns reports stats n old waiting (Malformed error) rule ids s =
     let last : TurnsLast (Refuses n error) old waiting = turns_last (Refuses n error) (refused n error) old waiting ids s in
     record { given = last.given; new = last.new; still = []; ids = All-nil HasId; turns = last.turns; proper = last.proper }
 
+-- a line of either kind of input
+plain_turns : (n : ℕ) (old : LinkerState) (waiting : List Observation) (said : Said) → HasIdRule said → All HasId waiting → IsProper old → Turns Plain n old waiting said
+plain_turns n old waiting Nothing rule ids s = record { given = []; new = old; still = waiting; ids = ids; turns = (refl, refl); proper = s }
+plain_turns n old waiting (Waits d) rule ids s = record { given = []; new = old; still = waiting ++ d ∷ []; ids = All-append HasId waiting (d ∷ []) ids (All-cons HasId d [] rule (All-nil HasId)); turns = (refl, refl); proper = s }
+plain_turns n old waiting (Refused error) rule ids s = record { given = replies.Line n error ∷ []; new = old; still = waiting; ids = ids; turns = (refl, refl); proper = s }
+plain_turns n old waiting (Asks command) rule ids s = record { given = replies.Script n causes.Command ∷ []; new = old; still = waiting; ids = ids; turns = (refl, refl); proper = s }
+plain_turns n old waiting (Malformed error) rule ids s = record { given = replies.Script n causes.Command ∷ []; new = old; still = waiting; ids = ids; turns = (refl, refl); proper = s }
+
+line_turns : ReportExists → StatsExist → (kind : Input) (n : ℕ) (old : LinkerState) (waiting : List Observation) (said : Said) → HasIdRule said → All HasId waiting → IsProper old → Turns kind n old waiting said
+line_turns reports stats Script n old waiting said rule ids s = script_turns reports stats n old waiting said rule ids s
+line_turns reports stats Plain n old waiting said rule ids s = plain_turns n old waiting said rule ids s
+
 -- the replies to some lines, and what they lead to
-record Runs (n : ℕ) (old : LinkerState) (waiting : List Observation) (input : List (List ℕ)) : Type 0 where
+record Runs (kind : Input) (n : ℕ) (old : LinkerState) (waiting : List Observation) (input : List (List ℕ)) : Type 0 where
   given : List Reply
   new : LinkerState
   still : List Observation
-  runs : Answers n (state_of old waiting) input given (state_of new still)
+  runs : Answers kind n (state_of old waiting) input given (state_of new still)
   ids : All HasId still
   proper : IsProper new
 
-lines_run : ReportExists → StatsExist → (n : ℕ) (old : LinkerState) (waiting : List Observation) (input : List (List ℕ)) → All HasId waiting → IsProper old → Runs n old waiting input
-lines_run reports stats n old waiting [] ids s = record { given = []; new = old; still = waiting; ids = ids; runs = (refl, refl); proper = s }
-lines_run reports stats n old waiting (line ∷ more) ids s =
-    let now : Turns n old waiting (said_by line) = line_turns reports stats n old waiting (said_by line) (line_ids line) ids s in
-    let later : Runs (n + 1) now.new now.still more = lines_run reports stats (n + 1) now.new now.still more now.ids now.proper in
+lines_run : ReportExists → StatsExist → (kind : Input) (n : ℕ) (old : LinkerState) (waiting : List Observation) (input : List (List ℕ)) → All HasId waiting → IsProper old → Runs kind n old waiting input
+lines_run reports stats kind n old waiting [] ids s = record { given = []; new = old; still = waiting; ids = ids; runs = (refl, refl); proper = s }
+lines_run reports stats kind n old waiting (line ∷ more) ids s =
+    let now : Turns kind n old waiting (said_by line) = line_turns reports stats kind n old waiting (said_by line) (line_ids line) ids s in
+    let later : Runs kind (n + 1) now.new now.still more = lines_run reports stats kind (n + 1) now.new now.still more now.ids now.proper in
     record {
       given = now.given ++ later.given;
       new = later.new;
@@ -217,13 +235,56 @@ lines_run reports stats n old waiting (line ∷ more) ids s =
       proper = later.proper;
     }
 
+-- ---- the end of an input
+
+linked_some : (old : LinkerState) (d : Observation) (ds : List Observation) → All HasId (d ∷ ds) → IsProper old → Leads (List Reply) (LinksSome old (d ∷ ds))
+linked_some old d ds ids s =
+    let least = least_night_exists old.settings.night_shift d ds in
+    let first : Leads Reply (Obeys (Window least.0 (least.0 +ℤ pos 29)) old) = moved_to old least.0 (least.0 +ℤ pos 29) s (window_refusal old.log.window least.0 (least.0 +ℤ pos 29)) refl in
+    let rest : Leads (List Reply) (Delivers first.new (d ∷ ds)) = delivered first.new (d ∷ ds) ids first.proper in
+    record {
+      given = first.given ∷ rest.given;
+      new = rest.new;
+      leads = record {
+        night = least.0;
+        least = least.1;
+        window = first.given;
+        between = first.new;
+        set = first.leads;
+        delivered = rest.given;
+        delivery = rest.leads;
+        given_is = refl;
+      };
+      proper = rest.proper;
+    }
+
+linked : (old : LinkerState) (ds : List Observation) → All HasId ds → IsProper old → Leads (List Reply) (Links old ds)
+linked old [] ids s = record { given = []; new = old; leads = (refl, refl); proper = s }
+linked old (d ∷ ds) ids s =
+    let some : Leads (List Reply) (LinksSome old (d ∷ ds)) = linked_some old d ds ids s in
+    record { given = some.given; new = some.new; leads = some.leads; proper = some.proper }
+
+input_ends : ReportExists → StatsExist → (kind : Input) (old : LinkerState) (waiting : List Observation) → All HasId waiting → IsProper old → Leads (List Reply) (EndsIn kind (state_of old waiting))
+input_ends reports stats Script old waiting ids s =
+    let last : Leads (List Reply) (Delivers old waiting) = delivered old waiting ids s in
+    record { given = last.given; new = last.new; leads = last.leads; proper = last.proper }
+input_ends reports stats Plain old waiting ids s =
+    let links : Leads (List Reply) (Links old waiting) = linked old waiting ids s in
+    let own : Leads Reply (Obeys report_command links.new) = obeyed reports stats report_command links.new links.proper in
+    record {
+      given = links.given ++ own.given ∷ [];
+      new = own.new;
+      leads = record { linked = links.given; between = links.new; links = links.leads; report = own.given; reported = own.leads; given_is = refl };
+      proper = own.proper;
+    }
+
 at_the_start : IsProper start.linker
 at_the_start = record { state = record { shift = refl; orderly = nothing_held standard_settings.night_shift }; settings = search rules }
 
-pub all_answers : ReportExists → StatsExist → (input : List (List ℕ)) → (given : List Reply) × AnswersAll input given
-all_answers reports stats input =
-    let so_far : Runs 1 start.linker [] input = lines_run reports stats 1 start.linker [] input (All-nil HasId) at_the_start in
-    let last : Leads (List Reply) (Delivers so_far.new so_far.still) = delivered so_far.new so_far.still so_far.ids so_far.proper in (
+pub all_answers : ReportExists → StatsExist → (kind : Input) (input : List (List ℕ)) → (given : List Reply) × AnswersAll kind input given
+all_answers reports stats kind input =
+    let so_far : Runs kind 1 start.linker [] input = lines_run reports stats kind 1 start.linker [] input (All-nil HasId) at_the_start in
+    let last : Leads (List Reply) (EndsIn kind (state_of so_far.new so_far.still)) = input_ends reports stats kind so_far.new so_far.still so_far.ids so_far.proper in (
       so_far.given ++ last.given,
       record {
         so_far = so_far.given;
@@ -231,7 +292,7 @@ all_answers reports stats input =
         last = last.given;
         linker = last.new;
         answers = so_far.runs;
-        delivery = last.leads;
+        ending = last.leads;
         given_is = refl;
       },
     )

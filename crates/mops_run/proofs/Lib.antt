@@ -1,10 +1,16 @@
 pub mod Receipts
+pub mod TextByLines
+pub mod Words
+pub mod LeastNights
 pub mod Agreement
 pub mod Runs
 pub mod Cut
 pub mod SoFar
 pub mod Endings
+pub mod ByForm
 pub mod Numbers
 pub mod Steps
 pub mod SettingsKept
 pub mod Existence
+pub mod Told
+pub mod Summaries

@@ -1,9 +1,11 @@
 -- What several writes in a row do to a sink.
-use Rattle.std.proofs.Common.{◌≡◌, ℕ, ◌-◌, ◌++◌, List, ◌∙◌, sym, ap, append_assoc, arith, length, take, drop, take-append-drop, length-drop}
+use Rattle.std.proofs.Common.{◌≡◌, ℕ, ◌-◌, ◌++◌, List, [], ◌∙◌, refl, sym, ap, subst, append_assoc, append-nil, arith, inl, inr, length, take, drop, take-append-drop, length-drop}
+use Rattle.std.specs.Prelude.{◌⊎◌}
 use Rattle.std.specs.Io.KnownBytes.{Appends}
-use Rattle.std.proofs.KnownBytes.{Appends-trans}
+use Rattle.std.proofs.KnownBytes.{Appends-nil, Appends-trans}
 use Rattle.std.proofs.lemmas.List.{take_all}
-use Rattle.outer_io.specs.Receipt.{Receipt, Wrote}
+use Rattle.outer_io.specs.Receipt.{Receipt, IsFlushed, Wrote}
+use Rattle.mops_run.specs.Output.{WritesText, WritesTextFront, FailsIn}
 
 -- a front of the text is written, and the rest is not, without a fault
 pub record WroteFront (old new : Receipt) (text rest : List ℕ) : Type 0 where
@@ -21,3 +23,15 @@ WroteFront-more old mid new text rest n so w =
       bytes = (so.bytes.0 ++ take n rest, parts, Appends-trans _ _ _ _ _ so.bytes.2 w.bytes);
       faults = w.faults ∙ so.faults;
     })
+
+-- two texts, one behind the other
+pub WritesText-then : (old mid new : Receipt) (text more : List ℕ) → WritesText old mid text → WritesText mid new more → WritesText old new (text ++ more)
+WritesText-then old mid new text more a b = record {
+  bytes = Appends-trans old.written mid.written new.written text more a.bytes b.bytes;
+  whole = elim b.whole [ inl same ↦ subst (λ (r : Receipt). (r ≡ old) ⊎ IsFlushed r) (sym same) a.whole | inr flushed ↦ inr flushed ];
+  faults = b.faults ∙ a.faults;
+}
+
+-- nothing is written yet
+pub WritesText-nothing : (sink : Receipt) → WritesText sink sink []
+WritesText-nothing sink = record { bytes = Appends-nil sink.written; whole = inl refl; faults = refl }

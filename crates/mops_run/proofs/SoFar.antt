@@ -15,7 +15,9 @@ use Rattle.outer_io.specs.declared.line_reader.Got.TheVariants.{Line, End}
 use Rattle.outer_io.specs.declared.line_reader.ReadStop.{ReadStop}
 use Rattle.outer_io.specs.declared.line_reader.ReadStop.TheVariants.{TooLong}
 use Rattle.window_incr.specs.LinkerState.{LinkerState}
-use Rattle.mops_run.specs.Deliveries.{Delivers}
+use Rattle.mops_run.specs.declared.inputs.Input.{Input}
+use Rattle.mops_run.specs.declared.inputs.Input.TheVariants.{Script, Plain}
+use Rattle.mops_run.specs.Inputs.{RepliesIn, EndsIn}
 use Rattle.mops_run.specs.State.{State, start}
 use Rattle.mops_run.specs.Replies.{Replies}
 use Rattle.track_report.specs.Refusals.{is_refusal}
@@ -31,6 +33,7 @@ use Rattle.mops_run.specs.declared.lines.Said.{Said}
 use Rattle.mops_run.specs.declared.lines.Said.TheVariants.{Nothing, Waits, Refused, Asks, Malformed}
 use Rattle.mops_run.specs.Lines.{said_by, said_of}
 use Rattle.track_report.specs.declared.replies.Reply.{Reply}
+use Rattle.mops_run.proofs.Receipts.{WritesText-then}
 use Rattle.mops_run.proofs.Cut.{script_line_of-take}
 use Rattle.mops_run.proofs.Agreement.{Answers-only, AnswersAll-only}
 use Rattle.mops_run.proofs.Runs.{Answers-append, Answers-split}
@@ -47,10 +50,10 @@ pub record TakesBytes (old new : Supply) (count : ℕ) : Type 0 where
   pub counted : new.taken ≡ risen old.taken count
 
 -- after some lines: the replies to them are written, and they have led to this state
-pub record SoFar (source_old : Supply) (reader : Reading) (source : Supply) (sink_old sink : Receipt) (number : ℕ) (state : State) (refused : Bool) : Type 0 where
+pub record SoFar (kind : Input) (source_old : Supply) (reader : Reading) (source : Supply) (sink_old sink : Receipt) (number : ℕ) (state : State) (refused : Bool) : Type 0 where
   pub seen : List (List ℕ)
   pub replies : List Reply
-  pub answers : Answers 1 start seen replies state
+  pub answers : Answers kind 1 start seen replies state
   pub counted : number ≡ length seen
   pub few : length state.waiting ≤ number
   pub adds : WritesText sink_old sink (text_of_all replies)
@@ -64,8 +67,8 @@ pub record SoFar (source_old : Supply) (reader : Reading) (source : Supply) (sin
   pub faults : source.faults ≡ source_old.faults
 
 -- nothing was read or written yet
-pub SoFar-start : (source : Supply) (sink : Receipt) → SoFar source fresh source sink sink 0 start false
-SoFar-start source sink = record {
+pub SoFar-start : (kind : Input) (source : Supply) (sink : Receipt) → SoFar kind source fresh source sink sink 0 start false
+SoFar-start kind source sink = record {
   seen = [];
   replies = [];
   answers = (refl, refl);
@@ -109,20 +112,23 @@ tells_more (Some all) (Some xs) (Some ys) seen line last tells next =
     (next.content, ap said_by next.cut ∙ ap said_of (script_line_of-take next.content), tells ∙ ap (λ ls. seen ++ ls) first ∙ sym (append_assoc seen (next.content ∷ []) (lines ys)))
 
 -- one more detection at most waits after a line
-waiting_more : (n : ℕ) (old new : State) (said : Said) (given : List Reply) → Replies n old said given new → length new.waiting ≤ length old.waiting + 1
-waiting_more n old new Nothing given a = omega (arith, ap (λ (s : State). length s.waiting) a.1)
-waiting_more n old new (Waits d) given a = omega (arith, ap (λ (s : State). length s.waiting) a.1, length-append old.waiting (d ∷ []))
-waiting_more n old new (Refused error) given a = omega (arith, ap (λ (s : State). length s.waiting) a.1)
-waiting_more n old new (Asks command) given a = omega (arith, ap length a.none_waits)
-waiting_more n old new (Malformed error) given a = omega (arith, ap length a.none_waits)
+waits_on : (old new : State) → new ≡ old → length new.waiting ≤ length old.waiting + 1
+waits_on old new same = omega (arith, ap (λ (s : State). length s.waiting) same)
 
--- two texts, one behind the other
-pub WritesText-then : (old mid new : Receipt) (text more : List ℕ) → WritesText old mid text → WritesText mid new more → WritesText old new (text ++ more)
-WritesText-then old mid new text more a b = record {
-  bytes = Appends-trans old.written mid.written new.written text more a.bytes b.bytes;
-  whole = elim b.whole [ inl same ↦ subst (λ (r : Receipt). (r ≡ old) ⊎ IsFlushed r) (sym same) a.whole | inr flushed ↦ inr flushed ];
-  faults = b.faults ∙ a.faults;
-}
+script_waiting : (n : ℕ) (old new : State) (said : Said) (given : List Reply) → Replies n old said given new → length new.waiting ≤ length old.waiting + 1
+script_waiting n old new Nothing given a = waits_on old new a.1
+script_waiting n old new (Waits d) given a = omega (arith, ap (λ (s : State). length s.waiting) a.1, length-append old.waiting (d ∷ []))
+script_waiting n old new (Refused error) given a = waits_on old new a.1
+script_waiting n old new (Asks command) given a = omega (arith, ap length a.none_waits)
+script_waiting n old new (Malformed error) given a = omega (arith, ap length a.none_waits)
+
+waiting_more : (kind : Input) (n : ℕ) (old new : State) (said : Said) (given : List Reply) → RepliesIn kind n old said given new → length new.waiting ≤ length old.waiting + 1
+waiting_more Script n old new said given a = script_waiting n old new said given a
+waiting_more Plain n old new Nothing given a = waits_on old new a.1
+waiting_more Plain n old new (Waits d) given a = script_waiting n old new (Waits d) given a
+waiting_more Plain n old new (Refused error) given a = waits_on old new a.1
+waiting_more Plain n old new (Asks command) given a = waits_on old new a.1
+waiting_more Plain n old new (Malformed error) given a = waits_on old new a.1
 
 -- two rises of a count, one behind the other
 risen-then : (first mid last m more n : ℕ) → mid ≡ risen first m → last ≡ risen mid more → n ≡ m + more → last ≡ risen first n
@@ -143,28 +149,28 @@ or_true true = refl
 or_true false = refl
 
 -- the answers so far, and those to one more line
-one_more : (seen : List (List ℕ)) (content line : List ℕ) (number : ℕ) (state state' : State) (so_far given : List Reply) → Answers 1 start seen so_far state → number ≡ length seen
-    → said_by line ≡ said_by content → Replies (number + 1) state (said_by line) given state' → Answers 1 start (seen ++ content ∷ []) (so_far ++ given) state'
-one_more seen content line number state state' so_far given answers counted same replies =
-    let numbered : Replies (1 + length seen) state (said_by line) given state' = subst (λ k. Replies k state (said_by line) given state') (omega (arith, counted)) replies in
-    let now : Replies (1 + length seen) state (said_by content) given state' = subst (λ said. Replies (1 + length seen) state said given state') same numbered in
-    Answers-append 1 start state state' seen (content ∷ []) so_far given answers (given, [], state', now, (refl, refl), sym (append-nil given))
+one_more : (kind : Input) (seen : List (List ℕ)) (content line : List ℕ) (number : ℕ) (state state' : State) (so_far given : List Reply) → Answers kind 1 start seen so_far state → number ≡ length seen
+    → said_by line ≡ said_by content → RepliesIn kind (number + 1) state (said_by line) given state' → Answers kind 1 start (seen ++ content ∷ []) (so_far ++ given) state'
+one_more kind seen content line number state state' so_far given answers counted same replies =
+    let numbered : RepliesIn kind (1 + length seen) state (said_by line) given state' = subst (λ k. RepliesIn kind k state (said_by line) given state') (omega (arith, counted)) replies in
+    let now : RepliesIn kind (1 + length seen) state (said_by content) given state' = subst (λ said. RepliesIn kind (1 + length seen) state said given state') same numbered in
+    Answers-append kind 1 start state state' seen (content ∷ []) so_far given answers (given, [], state', now, (refl, refl), sym (append-nil given))
 
 -- what was answered so far, and one more line
-pub SoFar-line : (source_old : Supply) (reader reader' : Reading) (source source' : Supply) (sink_old sink sink' : Receipt) (number : ℕ)
+pub SoFar-line : (kind : Input) (source_old : Supply) (reader reader' : Reading) (source source' : Supply) (sink_old sink sink' : Receipt) (number : ℕ)
     (state state' : State) (refused bad refused' : Bool)
-    → SoFar source_old reader source sink_old sink number state refused → NextLine reader reader' source source'
-    → Answered (number + 1) state reader'.line sink sink' bad state' → refused' ≡ (refused || bad)
-    → SoFar source_old reader' source' sink_old sink' (number + 1) state' refused'
-SoFar-line source_old reader reader' source source' sink_old sink sink' number state state' refused bad refused' so next answered refused_is =
+    → SoFar kind source_old reader source sink_old sink number state refused → NextLine reader reader' source source'
+    → Answered kind (number + 1) state reader'.line sink sink' bad state' → refused' ≡ (refused || bad)
+    → SoFar kind source_old reader' source' sink_old sink' (number + 1) state' refused'
+SoFar-line kind source_old reader reader' source source' sink_old sink sink' number state state' refused bad refused' so next answered refused_is =
     let more = tells_more source_old.left (ahead reader source) (ahead reader' source') so.seen reader'.line reader'.ended so.tells next.line in
     let texts : text_of_all (so.replies ++ answered.given) ≡ text_of_all so.replies ++ text_of_all answered.given = flat_map-append text_of so.replies answered.given in
-    let waiting : length state'.waiting ≤ length state.waiting + 1 = waiting_more (number + 1) state state' (said_by reader'.line) answered.given answered.replies in
+    let waiting : length state'.waiting ≤ length state.waiting + 1 = waiting_more kind (number + 1) state state' (said_by reader'.line) answered.given answered.replies in
     let bad_is : bad ≡ list_any is_refusal answered.given = answered.says.refused_is in
     record {
       seen = so.seen ++ more.0 ∷ [];
       replies = so.replies ++ answered.given;
-      answers = one_more so.seen more.0 reader'.line number state state' so.replies answered.given so.answers so.counted more.1 answered.replies;
+      answers = one_more kind so.seen more.0 reader'.line number state state' so.replies answered.given so.answers so.counted more.1 answered.replies;
       counted = omega (arith, length-append so.seen (more.0 ∷ []), so.counted);
       few = omega (arith, waiting, so.few);
       adds = rw texts (WritesText-then sink_old sink sink' (text_of_all so.replies) (text_of_all answered.given) so.adds answered.says.adds);
@@ -179,26 +185,26 @@ SoFar-line source_old reader reader' source source' sink_old sink sink' number s
     }
 
 -- the replies so far are the front of all replies
-replies_ahead : (seen more all : List (List ℕ)) (so_far given : List Reply) (state : State) → all ≡ seen ++ more → Answers 1 start seen so_far state → AnswersAll all given
+replies_ahead : (kind : Input) (seen more all : List (List ℕ)) (so_far given : List Reply) (state : State) → all ≡ seen ++ more → Answers kind 1 start seen so_far state → AnswersAll kind all given
     → (later : List Reply) × (given ≡ so_far ++ later)
-replies_ahead seen more all so_far given state parts front whole =
-    let answers : Answers 1 start (seen ++ more) whole.so_far whole.state = subst (λ ls. Answers 1 start ls whole.so_far whole.state) parts whole.answers in
-    let split = Answers-split 1 start whole.state seen more whole.so_far answers in
-    let same : (split.first ≡ so_far) × (split.mid ≡ state) = Answers-only 1 start seen split.first so_far split.mid state split.before front in (
+replies_ahead kind seen more all so_far given state parts front whole =
+    let answers : Answers kind 1 start (seen ++ more) whole.so_far whole.state = subst (λ ls. Answers kind 1 start ls whole.so_far whole.state) parts whole.answers in
+    let split = Answers-split kind 1 start whole.state seen more whole.so_far answers in
+    let same : (split.first ≡ so_far) × (split.mid ≡ state) = Answers-only kind 1 start seen split.first so_far split.mid state split.before front in (
       split.second ++ whole.last,
       whole.given_is ∙ ap (λ r. r ++ whole.last) (split.given_is ∙ ap (λ p. p ++ split.second) same.0) ∙ append_assoc so_far split.second whole.last,
     )
 
 -- what was written so far is a front of what the whole input asks for
-pub WritesFront-so_far : (source_old : Supply) (reader : Reading) (source : Supply) (sink_old sink : Receipt) (number : ℕ) (state : State) (refused : Bool)
-    → SoFar source_old reader source sink_old sink number state refused → IfSome source_old.left (λ input. WritesFront input sink_old sink)
-WritesFront-so_far source_old reader source sink_old sink number state refused so = front source_old.left (ahead reader source) so.tells
+pub WritesFront-so_far : (kind : Input) (source_old : Supply) (reader : Reading) (source : Supply) (sink_old sink : Receipt) (number : ℕ) (state : State) (refused : Bool)
+    → SoFar kind source_old reader source sink_old sink number state refused → IfSome source_old.left (λ input. WritesFront kind input sink_old sink)
+WritesFront-so_far kind source_old reader source sink_old sink number state refused so = front source_old.left (ahead reader source) so.tells
   where
-    front : (input bytes : Option (List ℕ)) → Tells input bytes so.seen → IfSome input (λ all. WritesFront all sink_old sink)
+    front : (input bytes : Option (List ℕ)) → Tells input bytes so.seen → IfSome input (λ all. WritesFront kind all sink_old sink)
     front None bytes tells = tt
     front (Some all) None tells = absurd tells
     front (Some all) (Some rest) tells = λ given whole.
-        let later = replies_ahead so.seen (lines rest) (lines all) so.replies given state tells so.answers whole in
+        let later = replies_ahead kind so.seen (lines rest) (lines all) so.replies given state tells so.answers whole in
         (text_of_all so.replies, text_of_all later.0, ap text_of_all later.1 ∙ flat_map-append text_of so.replies later.0, so.adds.bytes)
 
 -- texts, of which one is cut
@@ -221,77 +227,77 @@ front_of so_far given later all old mid new adds fails parts =
     )
 
 -- the same where a write failed in the middle of the replies to one more line
-pub WritesFront-failed : (source_old : Supply) (reader reader' : Reading) (source source' : Supply) (sink_old sink sink' : Receipt) (number : ℕ) (state : State) (refused : Bool)
-    → SoFar source_old reader source sink_old sink number state refused → NextLine reader reader' source source'
-    → FailsToAnswer (number + 1) state reader'.line sink sink' → IfSome source_old.left (λ input. WritesFront input sink_old sink')
-WritesFront-failed source_old reader reader' source source' sink_old sink sink' number state refused so next failed =
+pub WritesFront-failed : (kind : Input) (source_old : Supply) (reader reader' : Reading) (source source' : Supply) (sink_old sink sink' : Receipt) (number : ℕ) (state : State) (refused : Bool)
+    → SoFar kind source_old reader source sink_old sink number state refused → NextLine reader reader' source source'
+    → FailsToAnswer kind (number + 1) state reader'.line sink sink' → IfSome source_old.left (λ input. WritesFront kind input sink_old sink')
+WritesFront-failed kind source_old reader reader' source source' sink_old sink sink' number state refused so next failed =
     front source_old.left (ahead reader' source') more.2
   where
     more : (content : List ℕ) × (said_by reader'.line ≡ said_by content) × Tells source_old.left (ahead reader' source') (so.seen ++ content ∷ [])
     more = tells_more source_old.left (ahead reader source) (ahead reader' source') so.seen reader'.line reader'.ended so.tells next.line
 
-    upto : Answers 1 start (so.seen ++ more.0 ∷ []) (so.replies ++ failed.given) failed.after
-    upto = one_more so.seen more.0 reader'.line number state failed.after so.replies failed.given so.answers so.counted more.1 failed.replies
+    upto : Answers kind 1 start (so.seen ++ more.0 ∷ []) (so.replies ++ failed.given) failed.after
+    upto = one_more kind so.seen more.0 reader'.line number state failed.after so.replies failed.given so.answers so.counted more.1 failed.replies
 
-    front : (input bytes : Option (List ℕ)) → Tells input bytes (so.seen ++ more.0 ∷ []) → IfSome input (λ all. WritesFront all sink_old sink')
+    front : (input bytes : Option (List ℕ)) → Tells input bytes (so.seen ++ more.0 ∷ []) → IfSome input (λ all. WritesFront kind all sink_old sink')
     front None bytes tells = tt
     front (Some all) None tells = absurd tells
     front (Some all) (Some rest) tells = λ given whole.
-        let later = replies_ahead (so.seen ++ more.0 ∷ []) (lines rest) (lines all) (so.replies ++ failed.given) given failed.after tells upto whole in
+        let later = replies_ahead kind (so.seen ++ more.0 ∷ []) (lines rest) (lines all) (so.replies ++ failed.given) given failed.after tells upto whole in
         front_of so.replies failed.given later.0 given sink_old sink sink' so.adds failed.fails later.1
 
 -- the replies to a whole input whose lines were all seen: those so far, and those of what still waits
-answers_all : (all rest : List ℕ) (seen : List (List ℕ)) (so_far last : List Reply) (state : State) (linker : LinkerState) → lines all ≡ seen ++ lines rest → rest ≡ []
-    → Answers 1 start seen so_far state → Delivers state.linker state.waiting last linker → AnswersAll (lines all) (so_far ++ last)
-answers_all all rest seen so_far last state linker tells none answers delivery =
+answers_all : (kind : Input) (all rest : List ℕ) (seen : List (List ℕ)) (so_far last : List Reply) (state : State) (linker : LinkerState) → lines all ≡ seen ++ lines rest → rest ≡ []
+    → Answers kind 1 start seen so_far state → EndsIn kind state last linker → AnswersAll kind (lines all) (so_far ++ last)
+answers_all kind all rest seen so_far last state linker tells none answers ending =
     let whole : lines all ≡ seen = tells ∙ ap (λ xs. seen ++ lines xs) none ∙ append-nil seen in
     record {
       so_far = so_far;
       state = state;
       last = last;
       linker = linker;
-      answers = subst (λ ls. Answers 1 start ls so_far state) (sym whole) answers;
-      delivery = delivery;
+      answers = subst (λ ls. Answers kind 1 start ls so_far state) (sym whole) answers;
+      ending = ending;
       given_is = refl;
     }
 
 -- the same where a write failed in the middle of the replies of what waited at the end
-pub WritesFront-unfinished : (source_old : Supply) (reader : Reading) (source : Supply) (sink_old sink sink' : Receipt) (number : ℕ) (state : State) (refused : Bool)
-    → SoFar source_old reader source sink_old sink number state refused → IfSome (ahead reader source) (λ bytes. bytes ≡ [])
-    → FailsToFinish state sink sink' → IfSome source_old.left (λ input. WritesFront input sink_old sink')
-WritesFront-unfinished source_old reader source sink_old sink sink' number state refused so end failed = front source_old.left (ahead reader source) so.tells end
+pub WritesFront-unfinished : (kind : Input) (source_old : Supply) (reader : Reading) (source : Supply) (sink_old sink sink' : Receipt) (number : ℕ) (state : State) (refused : Bool)
+    → SoFar kind source_old reader source sink_old sink number state refused → IfSome (ahead reader source) (λ bytes. bytes ≡ [])
+    → FailsToFinish kind state sink sink' → IfSome source_old.left (λ input. WritesFront kind input sink_old sink')
+WritesFront-unfinished kind source_old reader source sink_old sink sink' number state refused so end failed = front source_old.left (ahead reader source) so.tells end
   where
-    front : (input bytes : Option (List ℕ)) → Tells input bytes so.seen → IfSome bytes (λ xs. xs ≡ []) → IfSome input (λ all. WritesFront all sink_old sink')
+    front : (input bytes : Option (List ℕ)) → Tells input bytes so.seen → IfSome bytes (λ xs. xs ≡ []) → IfSome input (λ all. WritesFront kind all sink_old sink')
     front None bytes tells none = tt
     front (Some all) None tells none = absurd tells
     front (Some all) (Some rest) tells none = λ given whole.
-        let mine : AnswersAll (lines all) (so.replies ++ failed.given) = answers_all all rest so.seen so.replies failed.given state failed.linker tells none so.answers failed.delivery in
-        let same : given ≡ so.replies ++ failed.given = AnswersAll-only (lines all) given (so.replies ++ failed.given) whole mine in
+        let mine : AnswersAll kind (lines all) (so.replies ++ failed.given) = answers_all kind all rest so.seen so.replies failed.given state failed.linker tells none so.answers failed.ending in
+        let same : given ≡ so.replies ++ failed.given = AnswersAll-only kind (lines all) given (so.replies ++ failed.given) whole mine in
         front_of so.replies failed.given [] given sink_old sink sink' so.adds failed.fails (same ∙ sym (append-nil (so.replies ++ failed.given)))
 
 -- at the end all of it is written
-pub WritesAll-end : (source_old : Supply) (reader : Reading) (source : Supply) (sink_old sink sink' : Receipt) (number : ℕ) (state : State) (refused bad : Bool)
-    → SoFar source_old reader source sink_old sink number state refused → IfSome (ahead reader source) (λ bytes. bytes ≡ [])
-    → Finished state sink sink' bad → IfSome source_old.left (λ input. WritesAll input sink_old sink' (refused || bad))
-WritesAll-end source_old reader source sink_old sink sink' number state refused bad so end finished = whole source_old.left (ahead reader source) so.tells end
+pub WritesAll-end : (kind : Input) (source_old : Supply) (reader : Reading) (source : Supply) (sink_old sink sink' : Receipt) (number : ℕ) (state : State) (refused bad : Bool)
+    → SoFar kind source_old reader source sink_old sink number state refused → IfSome (ahead reader source) (λ bytes. bytes ≡ [])
+    → Finished kind state sink sink' bad → IfSome source_old.left (λ input. WritesAll kind input sink_old sink' (refused || bad))
+WritesAll-end kind source_old reader source sink_old sink sink' number state refused bad so end finished = whole source_old.left (ahead reader source) so.tells end
   where
-    whole : (input bytes : Option (List ℕ)) → Tells input bytes so.seen → IfSome bytes (λ xs. xs ≡ []) → IfSome input (λ all. WritesAll all sink_old sink' (refused || bad))
+    whole : (input bytes : Option (List ℕ)) → Tells input bytes so.seen → IfSome bytes (λ xs. xs ≡ []) → IfSome input (λ all. WritesAll kind all sink_old sink' (refused || bad))
     whole None bytes tells none = tt
     whole (Some all) None tells none = absurd tells
     whole (Some all) (Some rest) tells none =
         let texts : text_of_all (so.replies ++ finished.given) ≡ text_of_all so.replies ++ text_of_all finished.given = flat_map-append text_of so.replies finished.given in
         let bad_is : bad ≡ list_any is_refusal finished.given = finished.says.refused_is in (
           so.replies ++ finished.given,
-          answers_all all rest so.seen so.replies finished.given state finished.linker tells none so.answers finished.delivery,
+          answers_all kind all rest so.seen so.replies finished.given state finished.linker tells none so.answers finished.ending,
           rw texts (WritesText-then sink_old sink sink' (text_of_all so.replies) (text_of_all finished.given) so.adds finished.says.adds),
           ap (λ b. b || bad) so.refused_is ∙ ap (λ b. list_any is_refusal so.replies || b) bad_is ∙ sym (list_any-append is_refusal so.replies finished.given),
         )
 
 -- the whole is a front of itself
-pub WritesFront-whole : (left : Option (List ℕ)) (old new : Receipt) (refused : Bool) → IfSome left (λ input. WritesAll input old new refused) → IfSome left (λ input. WritesFront input old new)
-WritesFront-whole None old new refused whole = tt
-WritesFront-whole (Some input) old new refused whole = λ given answers.
-    let same : given ≡ whole.0 = AnswersAll-only (lines input) given whole.0 answers whole.1 in
+pub WritesFront-whole : (kind : Input) (left : Option (List ℕ)) (old new : Receipt) (refused : Bool) → IfSome left (λ input. WritesAll kind input old new refused) → IfSome left (λ input. WritesFront kind input old new)
+WritesFront-whole kind None old new refused whole = tt
+WritesFront-whole kind (Some input) old new refused whole = λ given answers.
+    let same : given ≡ whole.0 = AnswersAll-only kind (lines input) given whole.0 answers whole.1 in
     (text_of_all whole.0, [], ap text_of_all same ∙ sym (append-nil (text_of_all whole.0)), whole.2.bytes)
 
 -- the step of a reader that answered a line

@@ -1,21 +1,13 @@
 -- How the replies to one line come about.
-use Rattle.std.proofs.Common.{◌++◌, List, [], ◌∷◌, refl, ap, subst}
+use Rattle.std.proofs.Common.{◌++◌, List, [], ◌∷◌, refl, ap, subst, arith}
+use Rattle.std.specs.Prelude.{IfOk, Result, Ok, Err}
 use Rattle.miti_text.specs.Observation.{Observation}
-use Rattle.exposure_log.specs.Held.{ExposureData}
 use Rattle.window_incr.specs.LinkerState.{LinkerState}
 use Rattle.track_report.specs.declared.replies.Reply.{Reply}
-use Rattle.mops_run.specs.Deliveries.{DeliversOne, DeliversAll, Delivers}
+use Rattle.mops_run.specs.Deliveries.{Delivers}
 use Rattle.mops_run.specs.Replies.{RepliesLast}
+use Rattle.mops_run.specs.Linking.{Links, LinksSome}
 use Rattle.mops_run.specs.State.{state_of}
-
--- one more exposure is added behind others
-pub DeliversAll-more : (old mid new : LinkerState) (xs : List ExposureData) (x : ExposureData) (given : List Reply) (reply : Reply) → DeliversAll old xs given mid → DeliversOne mid x reply new
-    → DeliversAll old (xs ++ x ∷ []) (given ++ reply ∷ []) new
-DeliversAll-more old mid new [] x given reply a b =
-    let first : DeliversOne old x reply new = subst (λ (l : LinkerState). DeliversOne l x reply new) a.1 b in
-    (reply, [], new, first, (refl, refl), ap (λ r. r ++ reply ∷ []) a.0)
-DeliversAll-more old mid new (y ∷ ys) x given reply a b =
-    (a.0, a.1 ++ reply ∷ [], a.2, a.3, DeliversAll-more a.2 mid new ys x a.1 reply a.4 b, ap (λ r. r ++ reply ∷ []) a.5)
 
 -- what waits is delivered, and then a line has its own reply
 pub replies_last : (Own : LinkerState → Reply → LinkerState → Type 0) (old mid new : LinkerState) (waiting : List Observation) (delivered : List Reply) (own : Reply) → Delivers old waiting delivered mid
@@ -29,3 +21,13 @@ replies_last Own old mid new waiting delivered own delivery replied = record {
   none_waits = refl;
   given_is = refl;
 }
+
+-- what holds whatever the linker is
+pub at_one : {X E K : Type 0} (P : K → X → Type 0) (k : K) (r : Result X E) → IfOk r (λ x. (other : K) → P other x) → IfOk r (P k)
+at_one P k (Ok x) h = h k
+at_one P k (Err e) h = tt
+
+-- detections that have a least night are some
+pub links_some : (old : LinkerState) (ds : List Observation) (given : List Reply) (new : LinkerState) → LinksSome old ds given new → Links old ds given new
+links_some old [] given new some = absurd (omega (arith, some.least.among.1.1))
+links_some old (d ∷ ds) given new some = some

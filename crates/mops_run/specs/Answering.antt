@@ -7,8 +7,8 @@ use Rattle.track_report.specs.Refusals.{is_refusal}
 use Rattle.track_report.specs.declared.replies.Reply.{Reply}
 use Rattle.window_incr.specs.LinkerState.{LinkerState}
 use Rattle.mops_run.specs.State.{State}
-use Rattle.mops_run.specs.Deliveries.{Delivers}
-use Rattle.mops_run.specs.Replies.{Replies}
+use Rattle.mops_run.specs.declared.inputs.Input.{Input}
+use Rattle.mops_run.specs.Inputs.{RepliesIn, EndsIn}
 use Rattle.mops_run.specs.Output.{text_of_all, WritesText, FailsIn}
 
 -- the texts of some replies were added, and one of them is a refusal or none is
@@ -17,28 +17,28 @@ pub record Says (given : List Reply) (old new : Receipt) (refused : Bool) : Type
   pub refused_is : refused ≡ list_any is_refusal given
 
 -- the replies to the line of a number were said
-pub record Answered (number : ℕ) (state : State) (line : List ℕ) (old new : Receipt) (refused : Bool) (after : State) : Type 0 where
+pub record Answered (input : Input) (number : ℕ) (state : State) (line : List ℕ) (old new : Receipt) (refused : Bool) (after : State) : Type 0 where
   pub given : List Reply
-  pub replies : Replies number state (said_by line) given after
+  pub replies : RepliesIn input number state (said_by line) given after
   pub says : Says given old new refused
 
 -- a front of the texts of the replies to the line of a number was added, and then a call failed
-pub record FailsToAnswer (number : ℕ) (state : State) (line : List ℕ) (old new : Receipt) : Type 0 where
+pub record FailsToAnswer (input : Input) (number : ℕ) (state : State) (line : List ℕ) (old new : Receipt) : Type 0 where
   pub given : List Reply
   pub after : State
-  pub replies : Replies number state (said_by line) given after
+  pub replies : RepliesIn input number state (said_by line) given after
   pub fails : FailsIn old new (text_of_all given)
 
--- the replies of what still waits at the end of the input were said
-pub record Finished (state : State) (old new : Receipt) (refused : Bool) : Type 0 where
+-- the replies at the end of the input were said
+pub record Finished (input : Input) (state : State) (old new : Receipt) (refused : Bool) : Type 0 where
   pub given : List Reply
   pub linker : LinkerState
-  pub delivery : Delivers state.linker state.waiting given linker
+  pub ending : EndsIn input state given linker
   pub says : Says given old new refused
 
 -- a front of the texts of these was added, and then a call failed
-pub record FailsToFinish (state : State) (old new : Receipt) : Type 0 where
+pub record FailsToFinish (input : Input) (state : State) (old new : Receipt) : Type 0 where
   pub given : List Reply
   pub linker : LinkerState
-  pub delivery : Delivers state.linker state.waiting given linker
+  pub ending : EndsIn input state given linker
   pub fails : FailsIn old new (text_of_all given)

@@ -7,7 +7,7 @@ use Rattle.mops_run.specs.declared.top.Status.TheVariants.{Done, DoneWithRefusal
 abbrev pub complaint_of : Status → Option (List ℕ)
 complaint_of Done = None
 complaint_of DoneWithRefusals = None
-complaint_of Usage = Some (codes "usage: mops_run watch")
+complaint_of Usage = Some (codes "usage: mops_run watch | link | generate NUMBER NIGHTS OBJECTS | summary NUMBER NIGHTS OBJECTS")
 complaint_of ReadFault = Some (codes "read fault")
 complaint_of WriteFault = Some (codes "write fault")
 complaint_of NoMemory = Some (codes "out of memory")

@@ -6,6 +6,8 @@ use Rattle.exposure_log.specs.Deliveries.{AreExposuresOf}
 use Rattle.exposure_log.specs.Held.{ExposureData, TakesIn, refusal}
 use Rattle.exposure_log.specs.declared.errors.AddError.{AddError}
 use Rattle.exposure_log.specs.declared.errors.AddError.TheVariants.{Id}
+use Rattle.exposure_log.specs.declared.outcomes.Outcome.{Outcome}
+use Rattle.exposure_log.specs.declared.outcomes.Outcome.TheVariants.{Taken, Refused}
 use Rattle.window_incr.specs.LinkerState.{LinkerState}
 use Rattle.track_report.specs.declared.replies.Reply.{Reply}
 use Rattle.track_report.specs.declared.replies.Reply.TheVariants as replies
@@ -29,6 +31,11 @@ pub record IsRefused (old : LinkerState) (x : ExposureData) (error : AddError) (
 -- an exposure is taken where nothing refuses it, and is turned away by the first cause where something does
 abbrev pub DeliversOne : LinkerState → ExposureData → Reply → LinkerState → Type 0
 DeliversOne old x reply new = MatchOption (refusal old.log x) (IsAccepted old x reply new) (λ error. IsRefused old x error reply new)
+
+-- the reply that tells what came of an exposure
+abbrev pub reply_of : Outcome → Reply
+reply_of (Taken epoch site count) = replies.Added epoch site count
+reply_of (Refused error x) = replies.Refused x.epoch x.site error (named_id error x)
 
 -- exposures are added one after another
 abbrev pub DeliversAll : LinkerState → List ExposureData → List Reply → LinkerState → Type 0

@@ -3,8 +3,13 @@ pub mod Deliveries
 pub mod Commands
 pub mod Lines
 pub mod Replies
+pub mod Linking
+pub mod Inputs
 pub mod Answering
 pub mod Watch
 pub mod Promise
+pub mod Forms
+pub mod Summing
+pub mod Runs
 pub mod Output
 pub mod Complaints

@@ -1,5 +1,5 @@
 -- What a run of the program promises of the bytes that it reads and writes.
-use Rattle.std.specs.Prelude.{◌≡◌, ◌≢◌, ◌⊎◌, ◌^◌, ◌≤◌, ◌<◌, ◌↔◌, ℕ, Bool, true, false, List, [], ◌∷◌, length, Option, Some, None, IfSome, IsSomeAnd, codes}
+use Rattle.std.specs.Prelude.{◌≡◌, ◌≢◌, ◌⊎◌, ◌^◌, ◌≤◌, ◌<◌, ◌↔◌, ℕ, Bool, true, false, List, length, Option, Some, None, IfSome, IsSomeAnd}
 use Rattle.std.specs.List.{list_any}
 use Rattle.std.specs.Str.Lines.{lines}
 use Rattle.std.specs.Io.KnownBytes.{Consumes, IsAtEnd}
@@ -8,14 +8,11 @@ use Rattle.outer_io.specs.Receipt.{Receipt, IsFlushed}
 use Rattle.track_report.specs.Refusals.{is_refusal}
 use Rattle.mops_run.specs.Output.{text_of_all}
 use Rattle.mops_run.specs.Output.{WritesText, WritesTextFront}
+use Rattle.mops_run.specs.declared.inputs.Input.{Input}
 use Rattle.mops_run.specs.Watch.{AnswersAll}
 use Rattle.track_report.specs.declared.replies.Reply.{Reply}
 use Rattle.mops_run.specs.declared.top.Status.{Status}
 use Rattle.mops_run.specs.declared.top.Status.TheVariants.{Done, DoneWithRefusals, Usage, ReadFault, WriteFault, NoMemory, InputTooLong}
-
--- the one form of the program's words so far
-abbrev pub AreWatch : List (List ℕ) → Type 0
-AreWatch words = words ≡ codes "watch" ∷ []
 
 -- whether something was refused, where a status says that the run is done
 abbrev pub refused_by : Status → Option Bool
@@ -33,13 +30,13 @@ done_status true = DoneWithRefusals
 done_status false = Done
 
 -- the texts of the replies to all lines of the input were added, and one of these is a refusal or none is
-abbrev pub WritesAll : List ℕ → Receipt → Receipt → Bool → Type 0
-WritesAll input old new refused =
-    (replies : List Reply) × AnswersAll (lines input) replies × WritesText old new (text_of_all replies) × (refused ≡ list_any is_refusal replies)
+abbrev pub WritesAll : Input → List ℕ → Receipt → Receipt → Bool → Type 0
+WritesAll input bytes old new refused =
+    (replies : List Reply) × AnswersAll input (lines bytes) replies × WritesText old new (text_of_all replies) × (refused ≡ list_any is_refusal replies)
 
 -- a front of the texts of the replies to all lines of the input was added
-abbrev pub WritesFront : List ℕ → Receipt → Receipt → Type 0
-WritesFront input old new = (replies : List Reply) → AnswersAll (lines input) replies → WritesTextFront old new (text_of_all replies)
+abbrev pub WritesFront : Input → List ℕ → Receipt → Receipt → Type 0
+WritesFront input bytes old new = (replies : List Reply) → AnswersAll input (lines bytes) replies → WritesTextFront old new (text_of_all replies)
 
 -- the end of the input was marked, and nothing is left
 abbrev pub IsSpent : Supply → Type 0
@@ -96,10 +93,10 @@ EndsByReading WriteFault = ⊥
 EndsByReading NoMemory = ⊥
 
 -- how answering the lines of a source on a sink ended, by its status
-pub record Watches (status : Status) (source_old source_new : Supply) (sink_old sink_new : Receipt) : Type 0 where
+pub record Reads (input : Input) (status : Status) (source_old source_new : Supply) (sink_old sink_new : Receipt) : Type 0 where
   -- where the bytes of the input are told: all replies are written, or a front of them
-  pub whole : IfSome (refused_by status) (λ refused. IfSome source_old.left (λ input. WritesAll input sink_old sink_new refused))
-  pub front : IfSome source_old.left (λ input. WritesFront input sink_old sink_new)
+  pub whole : IfSome (refused_by status) (λ refused. IfSome source_old.left (λ bytes. WritesAll input bytes sink_old sink_new refused))
+  pub front : IfSome source_old.left (λ bytes. WritesFront input bytes sink_old sink_new)
   -- a run that is done has read all there is
   pub spent : IfSome (refused_by status) (λ refused. IsSpent source_new)
   -- all that was written is flushed, unless a write failed or memory was wanting
@@ -108,3 +105,20 @@ pub record Watches (status : Status) (source_old source_new : Supply) (sink_old 
   pub sink_faults : SinkFaults status sink_old.faults sink_new.faults
   pub taken : Takes status source_old source_new
   pub used : status ≢ Usage
+
+-- a run that reads nothing is done, and refuses nothing, or failed to write, or wanted memory
+abbrev pub EndsUnread : Status → Type 0
+EndsUnread Done = Unit {0}
+EndsUnread WriteFault = Unit {0}
+EndsUnread NoMemory = Unit {0}
+EndsUnread DoneWithRefusals = ⊥
+EndsUnread Usage = ⊥
+EndsUnread ReadFault = ⊥
+EndsUnread InputTooLong = ⊥
+
+-- how a run that reads nothing and writes one text ended, by its status
+pub record Writes (status : Status) (old new : Receipt) (text : List ℕ) : Type 0 where
+  pub whole : IfSome (refused_by status) (λ _. WritesText old new text)
+  pub front : WritesTextFront old new text
+  pub faults : SinkFaults status old.faults new.faults
+  pub ends : EndsUnread status

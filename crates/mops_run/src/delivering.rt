@@ -1,12 +1,12 @@
 //! Delivering the detections that wait: they are gathered into exposures, which are added in order.
 ghost use Rattle.std.specs.Prelude.{◌≡◌, ◌<◌, ◌^◌, [], IfOk, length, slice_get};
 ghost use Rattle.std.specs.Option.{option_map_or};
-ghost use Rattle.mops_run.specs.Deliveries.{DeliversAll, DeliversOne, Delivers, named_id as named_id_of};
+ghost use Rattle.mops_run.specs.Deliveries.{DeliversAll, Delivers, named_id as named_id_of, reply_of};
 
-use exposure_log::{AddError, Exposure, NotHeld, gather};
+use exposure_log::{AddError, Exposure, Outcome, gather};
 use miti_text::Detection;
 use sky_units::{NoMemory, Tally, Word};
-use std::alloc::{AllocError, Global};
+use std::alloc::Global;
 use track_report::Reply;
 use window_incr::Linker;
 
@@ -27,7 +27,7 @@ pub fn deliver(
     add_all(alloc, linker, exposures, tally)
 }
 
-/// Adds exposures one after another, and gives the reply of each.
+/// Adds exposures one after another, and gives the reply to each.
 fn add_all(
     alloc: Global,
     linker: &mut Linker,
@@ -38,33 +38,25 @@ fn add_all(
         DeliversAll linker.old.state exposures.items replies.items linker.new.state) }
     ensures tally { tally.new ≡ tally.old }
 {
-    let mut replies = Vec::with_capacity(alloc, exposures.len())?;
-    for exposure in exposures {
-        replies.push(add(alloc, linker, exposure, tally)?)?;
+    let outcomes = linker.hold_all(exposures, tally)?;
+    let mut replies = Vec::with_capacity(alloc, outcomes.len())?;
+    for outcome in outcomes {
+        replies.push(reply_to(alloc, outcome)?)?;
     }
     Ok(replies)
 }
 
-/// Adds an exposure, and gives its reply.
-fn add(
-    alloc: Global,
-    linker: &mut Linker,
-    exposure: Exposure,
-    tally: &mut Tally,
-) -> Result<Reply, NoMemory>
-    ensures reply { IfOk result (λ reply.
-        DeliversOne linker.old.state exposure reply linker.new.state) }
-    ensures tally { tally.new ≡ tally.old }
+/// The reply that tells what came of an exposure.
+fn reply_to(alloc: Global, outcome: Outcome) -> Result<Reply, NoMemory>
+    ensures { IfOk result (λ reply. reply ≡ reply_of outcome) }
 {
-    let epoch = exposure.epoch();
-    let site = Word::new(alloc, exposure.site())?;
-    match linker.hold(exposure, tally) {
-        Ok(count) => Ok(Reply::Added(epoch, site, count)),
-        Err(NotHeld::Refused(error, refused)) => {
-            let id = named_id(alloc, error, &refused)?;
-            Ok(Reply::Refused(epoch, site, error, id))
+    match outcome {
+        Outcome::Taken(epoch, site, count) => Ok(Reply::Added(epoch, site, count)),
+        Outcome::Refused(error, exposure) => {
+            let site = Word::new(alloc, exposure.site())?;
+            let id = named_id(alloc, error, &exposure)?;
+            Ok(Reply::Refused(exposure.epoch(), site, error, id))
         }
-        Err(NotHeld::NoMemory) => Err(AllocError),
     }
 }
 

@@ -1,5 +1,5 @@
-//! Links detections of moving objects: reads a script of detections and commands on standard
-//! input, and answers each line on standard output.
+//! Links detections of moving objects: reads a script of detections and commands, or detections
+//! alone, on standard input, and answers on standard output; or makes a sky to try it on.
 #![tactic(auto)]
 
 use complaints::complaint;
@@ -13,13 +13,21 @@ use top::{Status, run};
 mod commanding;
 mod complaints;
 mod delivering;
+#[cfg(test)]
+mod form_tests;
+mod forms;
+mod generating;
+mod inputs;
 mod laws;
 mod lines;
+mod linking;
 #[cfg(test)]
 mod night_tests;
 mod output;
+mod reading;
 #[cfg(test)]
 mod refusal_tests;
+mod summing;
 #[cfg(test)]
 mod tests;
 mod top;

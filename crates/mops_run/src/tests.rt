@@ -107,7 +107,7 @@ fn expect_in_pieces(
 }
 
 /// The bytes of some texts, one after another.
-fn joined(alloc: Global, parts: &[&str]) -> Result<Vec<u8>, Fail> {
+pub(crate) fn joined(alloc: Global, parts: &[&str]) -> Result<Vec<u8>, Fail> {
     let mut bytes = Vec::new(alloc);
     for part in parts {
         bytes.extend_from_slice(part.as_bytes())?;
@@ -116,7 +116,7 @@ fn joined(alloc: Global, parts: &[&str]) -> Result<Vec<u8>, Fail> {
 }
 
 /// How a run on some words ends.
-fn run_on<I: Source, O: Sink>(
+pub(crate) fn run_on<I: Source, O: Sink>(
     alloc: Global,
     list: &[&str],
     source: &mut I,
@@ -718,13 +718,27 @@ fn usage(rt: HostRuntime) -> Result<(), Fail> {
     replies_are_unique();
     replies_exist();
     let alloc = rt.alloc();
-    let lists: [&[&str]; 6] = [
+    let lists: [&[&str]; 20] = [
         &[],
+        &[""],
         &["watch", "now"],
+        &["watch", ""],
         &["watching"],
-        &["generate", "1", "31", "1"],
-        &["summary", "1", "3"],
+        &["Link"],
+        &["link", "1", "3", "1"],
         &["--help"],
+        &["generate"],
+        &["generate", "1", "31", "1"],
+        &["generate", "1", "0", "1"],
+        &["generate", "1", "3", "0"],
+        &["generate", "1", "3", "1001"],
+        &["generate", "4294967296", "3", "1"],
+        &["generate", "00000000001", "3", "1"],
+        &["generate", "-1", "3", "1"],
+        &["summary", "+1", "3", "1"],
+        &["summary", "1", " 3", "1"],
+        &["summary", "1", "3", ""],
+        &["summary", "1", "3"],
     ];
     for words in lists {
         let mut source = SureSource::new(joined(alloc, &[WINDOW])?);

@@ -1,9 +1,15 @@
 //! The top call, and how it ends.
-ghost use Rattle.std.specs.Prelude.{◌≡◌, ◌≢◌, ◌↔◌, ◌⊎◌, IfSome, IsTrue};
+ghost use Rattle.std.specs.Prelude.{◌≡◌, ◌≢◌, ◌↔◌, ◌⊎◌, None, IfSome};
 ghost use Rattle.outer_io.specs.Receipt.{IsFlushed};
-ghost use Rattle.mops_run.specs.Promise.{AreWatch, refused_by, WritesAll, WritesFront, IsSpent, EndsByReading, SourceFaults, SinkFaults, Takes, IsDone, IsShort, NoneFailed};
+ghost use Rattle.mops_run.specs.Forms.{HasPlan, form_of as form_of_words};
+ghost use Rattle.mops_run.specs.Promise.{EndsByReading, EndsUnread, IsDone, IsSpent, NoneFailed, SinkFaults, SourceFaults, Takes, refused_by};
+ghost use Rattle.mops_run.specs.Runs.{IsReadable, ReadsInput, Runs, WritesPart, WritesWhole};
 
-use crate::watching::watch;
+use crate::forms::{Form, form_of};
+use crate::generating::generate;
+use crate::inputs::Input;
+use crate::reading::read_all;
+use crate::summing::summarize;
 use outer_io::{Sink, Source};
 use sky_units::{Tally, Word};
 use std::alloc::Global;
@@ -27,9 +33,11 @@ pub enum Status {
     InputTooLong = 6,
 }
 
-/// Runs the program on its words: the one word `watch` answers each line of the source on the sink.
-/// A report lists the maximal tracks of the held detections, each with the reported quadratic on
-/// each axis (the definitions `IsReport` and `IsReported`).
+/// Runs the program on its words, which have one of four forms (the definition `form_of`): `watch`
+/// answers each line of the source on the sink, `link` links the detections of its lines, `generate`
+/// writes the lines of a made sky, and `summary` the statistics of one. A report lists the maximal
+/// tracks of the held detections, each with the reported quadratic on each axis (the definitions
+/// `IsReport` and `IsReported`).
 pub fn run<I: Source, O: Sink>(
     alloc: Global,
     words: &[Word],
@@ -38,20 +46,22 @@ pub fn run<I: Source, O: Sink>(
     tally: &mut Tally,
 ) -> Status
     // Other words are turned away, and nothing is touched.
-    ensures usage { (result ≡ Status.Usage) ↔ (AreWatch words.now → ⊥) }
+    ensures usage { (result ≡ Status.Usage) ↔ (form_of_words words.now ≡ None) }
     ensures untouched { result ≡ Status.Usage → (source.new ≡ source.old) × (sink.new ≡ sink.old) }
     ensures tally { tally.new ≡ tally.old }
 
     // The headline promise, where the source tells its bytes: a run that is done has written the
-    // replies that the definitions give, and every run has written a front of them.
-    ensures whole { IfSome (refused_by result) (λ refused. IfSome (I.supply source.old).left
-        (λ input. WritesAll input (O.receipt sink.old) (O.receipt sink.new) refused)) }
-    ensures front { IfSome (I.supply source.old).left
-        (λ input. WritesFront input (O.receipt sink.old) (O.receipt sink.new)) }
+    // replies that the definitions give, and every run has written a front of them. So has a run
+    // that makes a sky, whatever its source.
+    ensures whole { IfSome (form_of_words words.now) (λ form. IfSome (refused_by result)
+        (WritesWhole form (I.supply source.old).left (O.receipt sink.old) (O.receipt sink.new))) }
+    ensures front { IfSome (form_of_words words.now) (λ form.
+        WritesPart form (I.supply source.old).left (O.receipt sink.old) (O.receipt sink.new)) }
 
     // A run that is done has read all there is; all that was written is flushed, unless a write
     // failed or memory was wanting.
-    ensures spent { IfSome (refused_by result) (λ refused. IsSpent (I.supply source.new)) }
+    ensures spent { IfSome (form_of_words words.now) (λ form. IfSome (refused_by result)
+        (λ refused. ReadsInput form → IsSpent (I.supply source.new))) }
     ensures flushed { EndsByReading result →
         (O.receipt sink.new ≡ O.receipt sink.old) ⊎ IsFlushed (O.receipt sink.new) }
 
@@ -63,24 +73,41 @@ pub fn run<I: Source, O: Sink>(
     ensures taken { result ≢ Status.Usage →
         Takes result (I.supply source.old) (I.supply source.new) }
 
+    // A run that makes a sky reads nothing, and refuses nothing.
+    ensures unread { IfSome (form_of_words words.now) (λ form. (ReadsInput form → ⊥) →
+        (source.new ≡ source.old) × EndsUnread result) }
+
     // An input that is told and short is answered whole, unless a call failed or memory was wanting.
-    ensures completes { AreWatch words.now → IsShort (I.supply source.old).left
-        → NoneFailed (I.supply source.old).faults (I.supply source.new).faults
+    // So is a made sky.
+    ensures completes { IfSome (form_of_words words.now) (λ form.
+        IsReadable form (I.supply source.old) (I.supply source.new)
         → NoneFailed (O.receipt sink.old).faults (O.receipt sink.new).faults
-        → result ≢ Status.NoMemory → IsDone result }
+        → result ≢ Status.NoMemory → IsDone result) }
 {
-    if !is_watch(words) {
+    let Some(form) = form_of(words) else {
         return Status::Usage;
-    }
-    watch(alloc, source, sink, tally)
+    };
+    run_form(alloc, form, source, sink, tally)
 }
 
-/// Whether the words are the one word `watch`.
-fn is_watch(words: &[Word]) -> bool
-    ensures { IsTrue result ↔ AreWatch words.now }
+/// Runs a form.
+fn run_form<I: Source, O: Sink>(
+    alloc: Global,
+    form: Form,
+    source: &mut I,
+    sink: &mut O,
+    tally: &mut Tally,
+) -> Status
+    requires { HasPlan form }
+    ensures runs { Runs form result (I.supply source.old) (I.supply source.new)
+        (O.receipt sink.old) (O.receipt sink.new) }
+    ensures unread { (ReadsInput form → ⊥) → (source.new ≡ source.old) × EndsUnread result }
+    ensures tally { tally.new ≡ tally.old }
 {
-    match words {
-        [word] => word.bytes() == b"watch".as_slice(),
-        _ => false,
+    match form {
+        Form::Watch => read_all(alloc, Input::Script, source, sink, tally),
+        Form::Link => read_all(alloc, Input::Plain, source, sink, tally),
+        Form::Generate(plan) => generate(alloc, plan, sink),
+        Form::Summary(plan) => summarize(alloc, plan, sink, tally),
     }
 }

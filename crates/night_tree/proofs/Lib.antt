@@ -1,3 +1,5 @@
 pub mod EachTwoOf
 pub mod NightTracklets
+pub mod NoPairs
+pub mod PairsRise
 pub mod Sets

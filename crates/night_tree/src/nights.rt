@@ -5,8 +5,7 @@ ghost use Rattle.sky_units.specs.Pairs.{EpochsDontFall};
 ghost use Rattle.line_fit.specs.Slopes.{AreOfOneDay};
 ghost use Rattle.night_tree.specs.Nights.{tracklets_of};
 
-use crate::listing::tracklets_at;
-use crate::stages::sets_of;
+use crate::stages::tracklets_of;
 use sky_units::{NoMemory, Settings, Spot, Tracklet};
 use std::alloc::Global;
 use std::marker::Model;
@@ -43,8 +42,7 @@ impl Night {
         ensures { IfOk result (λ night. night ≡
             record { number = number; tracklets = tracklets_of settings.now spots.items }) }
     {
-        let sets = sets_of(alloc, spots.as_slice(), settings)?;
-        let tracklets = tracklets_at(alloc, spots.as_slice(), sets)?;
+        let tracklets = tracklets_of(alloc, spots.as_slice(), settings)?;
         Ok(Night { number, tracklets })
     }
 

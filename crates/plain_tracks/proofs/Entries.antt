@@ -19,6 +19,7 @@ use Rattle.sky_units.specs.TrackletData.{TrackSetData}
 use Rattle.sky_units.specs.Tracks.{numbers_of}
 use Rattle.plain_tracks.specs.Numbers.{AreKnownByNumbers, IsMaximalAmong}
 use Rattle.plain_tracks.proofs.Steps.{in_none}
+pub use Rattle.sky_units.proofs.Members.{front_or_rest, in_front, in_rest}
 
 -- how keys are compared
 abbrev pub key_cmp : Vec ℕ Global → Vec ℕ Global → Ordering
@@ -43,18 +44,6 @@ insert_all P (e ∷ es) k v all one tie =
       | Equal ↦ λ p. All-cons P (e.0, v) es (tie e (All-head P e es all) p) (All-tail P e es all)
       | Greater ↦ λ p. All-cons P e (insert_entry key_cmp es k v) (All-head P e es all) (insert_all P es k v (All-tail P e es all) one tie)
     ] refl
-
-pub in_front : {X : Type 0} → (x : X) (xs : List X) → Contains (x ∷ xs) x
-in_front x xs = Contains-append_left (x ∷ []) xs x (Contains-push [] x)
-
-pub in_rest : {X : Type 0} → (x : X) (xs : List X) (y : X) → Contains xs y → Contains (x ∷ xs) y
-in_rest x xs y c = Contains-append_right (x ∷ []) xs y c
-
-pub front_or_rest : {X : Type 0} → (x : X) (xs : List X) (y : X) → Contains (x ∷ xs) y → (x ≡ y) ⊎ Contains xs y
-front_or_rest x xs y c = elim (Contains-append_cases (x ∷ []) xs y c) [
-  | inl d ↦ elim (Contains-push_cases [] x y d) [ inl f ↦ absurd (in_none y f) | inr e ↦ inl e ]
-  | inr d ↦ inr d
-]
 
 insert_new : (es : List Entry) (k : Vec ℕ Global) (v : TrackSetData) → Contains (listed_numbers (insert_entry key_cmp es k v)) (numbers_of v)
 insert_new [] k v = in_front (numbers_of v) []

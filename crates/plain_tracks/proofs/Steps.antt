@@ -7,6 +7,7 @@ use mathlib.Core.Logic.{◌⊎◌, inl, inr}
 use Rattle.quad_fit.proofs.Admitted.{none_admitted}
 use Rattle.sky_math.specs.Lists.{EachTwo}
 use Rattle.sky_math.specs.Quadratics.{Passes}
+pub use Rattle.sky_units.proofs.Steps.{taken, spots_of-append, spots_of-push}
 use Rattle.sky_units.specs.Arcs.{AreNear}
 use Rattle.sky_units.specs.Motion.{AxisAdmits, point_from, points, tolerance}
 use Rattle.sky_units.specs.SettingsData.{AreSettings, SettingsData}
@@ -16,23 +17,11 @@ use Rattle.sky_units.specs.Tracks.{IsChoice, IsFittingSet}
 use Rattle.sky_units.specs.declared.axis.Axis.{Axis}
 use Rattle.sky_units.specs.declared.axis.Axis.TheVariants.{Ra, Dec}
 use Rattle.plain_tracks.specs.Growth.{FitTogether, IsGrown, IsSomeGrown}
-
-pub taken : {X : Type 0} → (xs : List X) (i : ℕ) (x : X) → i < length xs → x ≡ get_or xs i x → take (i + 1) xs ≡ take i xs ++ x ∷ []
-taken xs i x h e = take_more xs i x h ∙ ap (λ y. take i xs ++ y ∷ []) (sym e)
+pub use Rattle.sky_units.proofs.Members.{in_none}
 
 -- what stands at a place of a list stands there in a map of it
 pub mapped : {X Y : Type 0} → (f : X → Y) (xs : List X) (i : ℕ) (x : X) → i < length xs → x ≡ get_or xs i x → (i < length (map f xs)) × (f x ≡ get_or (map f xs) i (f x))
 mapped f xs i x h e = (simp length-map h, ap f e ∙ sym (get_or-map f xs i x (f x) h))
-
-pub in_none : {X : Type 0} → (x : X) → Contains [] x → ⊥
-in_none x c = let l : c.0 < 0 = c.1 in omega arith
-
-pub spots_of-append : (xs ys : TrackSetData) → spots_of (xs ++ ys) ≡ spots_of xs ++ spots_of ys
-spots_of-append [] ys = refl
-spots_of-append (x ∷ xs) ys = rw (spots_of-append xs ys) (sym (append_assoc x (spots_of xs) (spots_of ys)))
-
-pub spots_of-push : (xs : TrackSetData) (t : List SpotData) → spots_of (xs ++ t ∷ []) ≡ spots_of xs ++ t
-spots_of-push xs t = spots_of-append xs (t ∷ []) ∙ ap (λ l. spots_of xs ++ l) (append-nil t)
 
 -- ---- what fits has parts that fit
 pub each_two_left : {X : Type 0} → (R : X → X → Type 0) (xs ys : List X) → EachTwo R (xs ++ ys) → EachTwo R xs

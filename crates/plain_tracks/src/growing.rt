@@ -2,14 +2,14 @@
 //! its last tracklet fits too, so each grows out of one that was found before.
 ghost use Rattle.std.specs.Prelude.{◌≡◌, ◌++◌, ◌∷◌, [], ◌⊎◌, ◌↔◌, IsTrue, IfOk, OnOk};
 ghost use Rattle.std.specs.List.{Contains};
-ghost use Rattle.sky_units.specs.TrackletData.{TrackSetData, IsTrackSet, spots_of};
+ghost use Rattle.sky_units.specs.TrackletData.{TrackSetData, IsTrackSet};
 ghost use Rattle.night_tree.specs.Nights.{tracklets_of_each};
 ghost use Rattle.sky_units.specs.Tracks.{AreNights, IsFittingSet};
 ghost use Rattle.plain_tracks.specs.Growth.{AreTestable, FitTogether, MayGrow, IsGrown, IsSomeGrown};
 
 use night_tree::Night;
 use quad_fit::fits_joined;
-use sky_units::{NoMemory, Settings, Spot, Tally, TrackSet, Tracklet, is_arc_joined};
+use sky_units::{NoMemory, Settings, Spot, Tally, TrackSet, Tracklet, is_arc_joined, joined_spots};
 use std::alloc::Global;
 
 /// The fitting sets of some nights.
@@ -83,17 +83,6 @@ fn push_grown(
         }
     }
     Ok(())
-}
-
-/// The spots of tracklets, one tracklet after the other.
-pub fn joined_spots(alloc: Global, tracklets: &[Tracklet]) -> Result<Vec<Spot>, NoMemory>
-    ensures { IfOk result (λ spots. spots.items ≡ spots_of tracklets.now) }
-{
-    let mut spots = Vec::new(alloc);
-    for tracklet in tracklets {
-        spots.extend_from_slice(tracklet.spots())?;
-    }
-    Ok(spots)
 }
 
 /// Whether the spots of two slices, one slice after the other, meet the spread rule and fit.

@@ -4,8 +4,7 @@ ghost use Rattle.std.specs.List.{All, Contains};
 ghost use Rattle.sky_units.specs.Tracks.{AreAmong, numbers_of};
 ghost use Rattle.plain_tracks.specs.Numbers.{AreDifferent, IsMaximalAmong};
 
-use crate::growing::joined_spots;
-use sky_units::{NoMemory, TrackSet};
+use sky_units::{NoMemory, TrackSet, joined_spots};
 use std::alloc::Global;
 
 /// Whether no list properly contains the numbers, no two of which are the same. No list is longer

@@ -1,6 +1,5 @@
 //! The reported quadratic: of those that pass the spots the one of the least acceleration.
-ghost use Rattle.std.specs.Prelude.{◌≡◌, ◌≤◌, ◌<◌, ◌*◌, ◌^◌, pos, ◌<ℤ◌, ◌*ℤ◌, length};
-ghost use Rattle.std.specs.Int.{IsGcd, ◌∣◌};
+ghost use Rattle.std.specs.Prelude.{◌≡◌, ◌≤◌, ◌<◌, ◌*◌, ◌^◌, length};
 ghost use Rattle.std.specs.Int.RustNames.{unsigned_abs};
 ghost use Rattle.std.specs.List.{Contains};
 ghost use Rattle.sky_units.specs.Arcs.{IsArc};
@@ -16,7 +15,7 @@ ghost use Rattle.quad_fit.specs.Lowering.{IsDivisorOf, IsLowered, IsSeenFrom};
 use crate::curves::Curve;
 use crate::growing::{Basis, axis_level};
 use crate::levelling::Levelled;
-use sky_units::{Axis, Quad, Settings, Spot, offset};
+use sky_units::{Axis, Quad, Settings, Spot, common_divisor, offset, quotient};
 use std::marker::Model;
 
 /// The reported quadratic of the spots of an arc, two or more, that an axis admits: of the
@@ -151,25 +150,4 @@ fn divisor_of(seen: &Coefficients) -> u128
     let one = common_divisor(seen.den.unsigned_abs(), seen.p.unsigned_abs());
     let two = common_divisor(seen.v.unsigned_abs(), seen.q.unsigned_abs());
     common_divisor(one, two)
-}
-
-/// The greatest common divisor of two numbers, by Euclid's algorithm.
-fn common_divisor(a: u128, b: u128) -> u128
-    ensures { IsGcd a b result }
-{
-    let mut number = a;
-    let mut divisor = b;
-    while divisor != 0 {
-        (number, divisor) = (divisor, number % divisor);
-    }
-    number
-}
-
-/// The number that is `number` when it is multiplied by a divisor of it.
-fn quotient(number: i128, divisor: i128) -> i128
-    requires positive { pos 0 <ℤ divisor }
-    requires divides { unsigned_abs divisor ∣ unsigned_abs number }
-    ensures { result *ℤ divisor ≡ number }
-{
-    number / divisor
 }

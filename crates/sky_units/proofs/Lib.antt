@@ -4,6 +4,7 @@ pub mod Divisors
 pub mod EpochOrder
 pub mod Fractions
 pub mod PairExamples
+pub mod Members
 pub mod Origins
 pub mod Parts
 pub mod Reaches
@@ -11,4 +12,5 @@ pub mod ReportedOnce
 pub mod RisingLists
 pub mod SpotsAtPlaces
 pub mod Spread
+pub mod Steps
 pub mod Turning

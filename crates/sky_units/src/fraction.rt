@@ -1,9 +1,8 @@
 //! Fractions of bounded terms, compared and reduced exactly.
-ghost use Rattle.std.specs.Prelude.{◌≡◌, pos, ◌*ℤ◌, ◌<ℤ◌, SomeIff};
-ghost use Rattle.std.specs.Int.{IsGcd, ◌∣◌};
-ghost use Rattle.std.specs.Int.RustNames.{unsigned_abs};
+ghost use Rattle.std.specs.Prelude.{◌≡◌, SomeIff};
 ghost use Rattle.sky_units.specs.FracData.{IsFrac, frac_data, frac_cmp, HaveOneValue, IsInLowestTerms};
 
+use crate::euclid::{common_divisor, quotient};
 use std::cmp::Ordering;
 use std::marker::Model;
 
@@ -69,27 +68,4 @@ impl Frac {
     {
         (self.num * other.den).cmp(&(other.num * self.den))
     }
-}
-
-/// The greatest common divisor of two numbers.
-fn common_divisor(a: u128, b: u128) -> u128
-    ensures { IsGcd a b result }
-{
-    let mut x = a;
-    let mut y = b;
-    while y != 0 {
-        let rest = x % y;
-        x = y;
-        y = rest;
-    }
-    x
-}
-
-/// A number divided by one of its divisors.
-fn quotient(number: i128, divisor: i128) -> i128
-    requires positive { pos 0 <ℤ divisor }
-    requires divides { unsigned_abs divisor ∣ unsigned_abs number }
-    ensures { result *ℤ divisor ≡ number }
-{
-    number / divisor
 }

@@ -1,10 +1,9 @@
 //! The numbers of the spots of sets, and how the numbers of two sets compare.
 ghost use Rattle.std.specs.Prelude.{◌≡◌, ◌↔◌, IsTrue, MatchBool, IfOk, map};
 ghost use Rattle.std.specs.List.{Contains};
-ghost use Rattle.sky_units.specs.TrackletData.{spots_of};
 ghost use Rattle.sky_units.specs.Tracks.{AreAmong, numbers_of};
 
-use sky_units::{NoMemory, Spot, TrackSet, Tracklet};
+use sky_units::{NoMemory, TrackSet, joined_spots};
 use std::alloc::Global;
 
 /// The numbers of the spots of each set.
@@ -25,17 +24,6 @@ fn numbers(alloc: Global, set: &TrackSet) -> Result<Vec<u32>, NoMemory>
 {
     let spots = joined_spots(alloc, set.tracklets())?;
     spots.iter().map(|spot| spot.num).collect(alloc)
-}
-
-/// The spots of tracklets, one tracklet after the other.
-fn joined_spots(alloc: Global, tracklets: &[Tracklet]) -> Result<Vec<Spot>, NoMemory>
-    ensures { IfOk result (λ spots. spots.items ≡ spots_of tracklets.now) }
-{
-    let mut spots = Vec::new(alloc);
-    for tracklet in tracklets {
-        spots.extend_from_slice(tracklet.spots())?;
-    }
-    Ok(spots)
 }
 
 /// Whether a member with the first numbers gives way to one with the others: the others have all of

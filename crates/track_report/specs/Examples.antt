@@ -84,3 +84,7 @@ greatest = refl
 statistics : text_of (replies.Stats (record { exposures = 6; detections = 60; tracklets = 3; tracks = 1 })) ≡ codes "stats 6 60 3 1\n"
 unfolding digits
 statistics = refl
+
+summary : text_of (replies.Summary 1 3 1 (record { exposures = 6; detections = 6; tracklets = 3; tracks = 1 })) ≡ codes "summary 1 3 1\nstats 6 6 3 1\n"
+unfolding digits
+summary = refl

@@ -15,3 +15,4 @@ is_refusal (replies.WindowRefused error) = true
 is_refusal (replies.Tracklets night tracklets) = false
 is_refusal (replies.Report report) = false
 is_refusal (replies.Stats stats) = false
+is_refusal (replies.Summary number nights objects stats) = false

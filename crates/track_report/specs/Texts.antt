@@ -7,6 +7,7 @@ use Rattle.exposure_log.specs.declared.errors.AddError.TheVariants.{Id}
 use Rattle.track_report.specs.Words.{line}
 use Rattle.track_report.specs.Names.{line_error_name, script_error_name, add_error_name, window_error_name, set_error_name}
 use Rattle.track_report.specs.ReportText.{report_text}
+use Rattle.sky_units.specs.declared.statistics.Stats.{Stats}
 use Rattle.track_report.specs.declared.replies.Reply.{Reply}
 use Rattle.track_report.specs.declared.replies.Reply.TheVariants as replies
 
@@ -23,6 +24,10 @@ add_error_words error id = add_error_name error ∷ []
 abbrev pub tracklet_line : List (List ℕ) → List ℕ
 tracklet_line ids = line (codes "tracklet" ∷ ids)
 
+-- the line of statistics
+abbrev pub stats_line : Stats → List ℕ
+stats_line stats = line (codes "stats" ∷ decimal stats.exposures ∷ decimal stats.detections ∷ decimal stats.tracklets ∷ decimal stats.tracks ∷ [])
+
 -- each reply is one or more lines; epochs are in ticks
 abbrev pub text_of : Reply → List ℕ
 text_of (replies.Line number error) = refused_line number (line_error_name error)
@@ -37,5 +42,6 @@ text_of (replies.WindowRefused error) = line (codes "window" ∷ codes "refused"
 text_of (replies.Tracklets night tracklets) =
     line (codes "tracklets" ∷ signed_decimal night ∷ decimal (length tracklets) ∷ []) ++ flat_map tracklet_line tracklets
 text_of (replies.Report report) = report_text report
-text_of (replies.Stats stats) =
-    line (codes "stats" ∷ decimal stats.exposures ∷ decimal stats.detections ∷ decimal stats.tracklets ∷ decimal stats.tracks ∷ [])
+text_of (replies.Stats stats) = stats_line stats
+text_of (replies.Summary number nights objects stats) =
+    line (codes "summary" ∷ decimal number ∷ decimal nights ∷ decimal objects ∷ []) ++ stats_line stats

@@ -1,10 +1,9 @@
 //! Quadratics that are read: their bounds and their lowest terms.
 ghost use Rattle.std.specs.Prelude.{◌≡◌, SomeIff, MatchBool};
-ghost use Rattle.std.specs.Int.{IsGcd};
 ghost use Rattle.sky_units.specs.QuadData.{IsQuad, HaveNoCommonDivisor};
 ghost use Rattle.track_report.specs.Reading.{told_quad};
 
-use sky_units::Quad;
+use sky_units::{Quad, common_divisor};
 
 /// The greatest denominator.
 const MOST_DEN: i128 = 210_000_000_000_000_000_000_000_000_000;
@@ -54,18 +53,4 @@ fn have_no_common_divisor(den: i128, p: i128, v: i128, q: i128) -> bool
     let front = common_divisor(den.unsigned_abs(), p.unsigned_abs());
     let back = common_divisor(v.unsigned_abs(), q.unsigned_abs());
     common_divisor(front, back) == 1
-}
-
-/// The greatest common divisor of two numbers.
-fn common_divisor(a: u128, b: u128) -> u128
-    ensures { IsGcd a b result }
-{
-    let mut x = a;
-    let mut y = b;
-    while y != 0 {
-        let rest = x % y;
-        x = y;
-        y = rest;
-    }
-    x
 }

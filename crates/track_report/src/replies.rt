@@ -42,6 +42,8 @@ pub enum Reply {
     Report(Report),
     /// How much is held and found.
     Stats(Stats),
+    /// The number, the nights and the objects of a made sky, and what was found in it.
+    Summary(u32, u32, u32, Stats),
 }
 
 impl Reply {
@@ -87,6 +89,9 @@ pub fn append_reply(text: &mut Vec<u8>, reply: &Reply) -> Result<(), NoMemory>
         Reply::Tracklets(night, tracklets) => write_tracklets(text, *night, tracklets),
         Reply::Report(report) => write_report_lines(text, report),
         Reply::Stats(stats) => write_stats(text, stats),
+        Reply::Summary(number, nights, objects, stats) => {
+            write_summary(text, *number, *nights, *objects, stats)
+        }
     }
 }
 
@@ -223,4 +228,23 @@ fn write_stats(text: &mut Vec<u8>, stats: &Stats) -> Result<(), NoMemory>
     write_number(text, stats.tracks)?;
     text.push(b'\n')?;
     Ok(())
+}
+
+/// Adds the line of a made sky, and that of the statistics.
+fn write_summary(
+    text: &mut Vec<u8>,
+    number: u32,
+    nights: u32,
+    objects: u32,
+    stats: &Stats,
+) -> Result<(), NoMemory>
+    ensures { OnOk result (text.new.items ≡ text.old.items
+        ++ text_of (Reply.Summary number nights objects stats.now)) }
+{
+    text.extend_from_slice(b"summary")?;
+    write_number(text, number)?;
+    write_number(text, nights)?;
+    write_number(text, objects)?;
+    text.push(b'\n')?;
+    write_stats(text, stats)
 }

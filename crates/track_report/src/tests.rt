@@ -160,6 +160,10 @@ fn settings_windows_and_counts(rt: HostRuntime) -> Result<(), NoMemory> {
             "window refused back\n",
         ),
         (Reply::Stats(stats), "stats 6 6 3 1\n"),
+        (
+            Reply::Summary(4_294_967_295, 3, 1, stats),
+            "summary 4294967295 3 1\nstats 6 6 3 1\n",
+        ),
     ];
     for (reply, text) in table {
         let right = reads(rt.alloc(), reply, text)?;

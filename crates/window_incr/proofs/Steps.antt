@@ -5,7 +5,7 @@ use Rattle.std.proofs.lemmas.List.{map-append}
 use Rattle.std.proofs.lemmas.List.Elements.{All-append, All-cons, All-nil}
 use Rattle.sky_units.specs.TrackletData.{TrackletData, TrackSetData, spots_of}
 use Rattle.sky_units.specs.declared.reports.Track.{Track}
-use Rattle.plain_tracks.proofs.Steps.{spots_of-push, taken}
+use Rattle.sky_units.proofs.Steps.{taken}
 use Rattle.window_incr.specs.Answers.{AreTracksOf, HasValidQuads, IsTrackOf}
 use Rattle.window_incr.specs.LinkerState.{LinkerState}
 
@@ -13,9 +13,6 @@ pub map_one_more : {X Y : Type 0} (f : X → Y) (before : List Y) (xs : List X) 
     → (before ++ map f (take i xs)) ++ f x ∷ [] ≡ before ++ map f (take (i + 1) xs)
 map_one_more f before xs i x h same =
     append_assoc before (map f (take i xs)) (f x ∷ []) ∙ ap (λ l. before ++ l) (sym (ap (map f) (taken xs i x h same) ∙ map-append f (take i xs) (x ∷ [])))
-
-pub spots_one_more : (set : TrackSetData) (i : ℕ) (t : TrackletData) → i < length set → t ≡ get_or set i t → spots_of (take i set) ++ t ≡ spots_of (take (i + 1) set)
-spots_one_more set i t h same = sym (ap spots_of (taken set i t h same) ∙ spots_of-push (take i set) t)
 
 tracks_push : (s : LinkerState) (sets : List TrackSetData) (tracks : List Track) (set : TrackSetData) (track : Track) → AreTracksOf s sets tracks → IsTrackOf s set track → AreTracksOf s (sets ++ set ∷ []) (tracks ++ track ∷ [])
 tracks_push s [] [] set track all one = (one, tt)

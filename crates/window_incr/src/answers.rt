@@ -4,7 +4,6 @@ ghost use Rattle.std.specs.List.{All};
 ghost use Rattle.sky_units.specs.Arcs.{IsArc};
 ghost use Rattle.sky_units.specs.Motion.{AxisAdmits};
 ghost use Rattle.sky_units.specs.Reported.{IsReported};
-ghost use Rattle.sky_units.specs.TrackletData.{spots_of};
 ghost use Rattle.miti_text.specs.ValidReports.{IsValidQuad};
 ghost use Rattle.window_incr.specs.Answers.{AreTracksOf, CanBeTold, HasValidQuads, IsPosition, IsTrackOf, ids_of, id_of_number};
 
@@ -12,6 +11,7 @@ use exposure_log::ExposureLog;
 use quad_fit::reported;
 use sky_units::{
     Axis, Groups, NoMemory, Quad, Settings, Spot, Track, TrackSet, Tracklet, Tracks, Word, Words,
+    joined_spots,
 };
 use std::alloc::Global;
 
@@ -64,7 +64,7 @@ fn track_of(
         (record { settings = settings.now; log = log.now }) set.now) }
     ensures valid { IfOk result HasValidQuads }
 {
-    let spots = spots_of(alloc, set)?;
+    let spots = joined_spots(alloc, set.tracklets())?;
     let mut ids = Words::new(alloc);
     push_ids(&mut ids, alloc, log, spots.as_slice())?;
     Ok(Track {
@@ -73,18 +73,6 @@ fn track_of(
         ra: quad_of(spots.as_slice(), Axis::Ra, settings),
         dec: quad_of(spots.as_slice(), Axis::Dec, settings),
     })
-}
-
-/// The spots of a set, one tracklet after the other.
-#[tactic(auto, using(crate::proofs::Steps::spots_one_more))]
-fn spots_of(alloc: Global, set: &TrackSet) -> Result<Vec<Spot>, NoMemory>
-    ensures { IfOk result (λ spots. spots.items ≡ spots_of set.now) }
-{
-    let mut spots = Vec::new(alloc);
-    for tracklet in set.tracklets() {
-        spots.extend_from_slice(tracklet.spots())?;
-    }
-    Ok(spots)
 }
 
 /// The reported quadratic of spots on an axis.

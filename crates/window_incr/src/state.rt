@@ -5,6 +5,7 @@ ghost use Rattle.sky_units.specs.Limits.{most_nights, IsNear};
 ghost use Rattle.sky_units.specs.SettingNames.{set_named};
 ghost use Rattle.exposure_log.specs.Held.{TakesIn, IsAnsweredAs, refusal, window_refusal, moved};
 ghost use Rattle.exposure_log.specs.HandedBack.{IsHandedBack};
+ghost use Rattle.exposure_log.specs.Outcomes.{HoldsAll};
 ghost use Rattle.exposure_log.specs.declared.errors.AddError.TheVariants.{NoMemory as no_memory};
 ghost use Rattle.night_tree.specs.Nights.{tracklets_of_each};
 ghost use Rattle.window_incr.specs.Answers.{tracklet_ids, IsReport, AreStats};
@@ -15,8 +16,8 @@ ghost use Rattle.miti_text.specs.ValidReports.{IsValidReport};
 
 use crate::answers::{groups_of, tracks_of};
 use crate::listing::listed;
-use exposure_log::{AddError, Exposure, ExposureLog, NotHeld, WindowError};
-use kept_nights::{forget_before, night_of_number, renew_or_remove};
+use exposure_log::{AddError, Exposure, ExposureLog, NotHeld, Outcome, WindowError, hold_all};
+use kept_nights::{forget_before, night_of_number, renew_all_or_remove, renew_or_remove};
 use night_tree::Night;
 use plain_tracks::maximal_tracks;
 use sky_units::{Groups, NoMemory, Report, SetError, Settings, Stats, Tally, Word};
@@ -173,6 +174,36 @@ impl Linker {
             Ok(()) => Ok(count),
             Err(_) => Err(NotHeld::NoMemory),
         }
+    }
+
+    /// Holds exposures one after another, each as `hold` does, and says what came of each (the
+    /// definition `HoldsAll`). Their nights are built anew when all are held, and no other: one
+    /// build for all exposures of a night that follow one another. Where memory is wanting, nothing
+    /// changes. No fit test is made.
+    pub fn hold_all(
+        &mut self,
+        exposures: Vec<Exposure>,
+        tally: &mut Tally,
+    ) -> Result<Vec<Outcome>, NoMemory>
+        ensures ok { IfOk result (λ outcomes.
+            HoldsAll self.old.state.log exposures.items outcomes.items self.new.state.log ×
+            (self.new.state.settings ≡ self.old.state.settings)) }
+        ensures err { OnErr result (self.new ≡ self.old) }
+        ensures kept { self.new.nights ≡ nights_of self.new.state }
+        ensures tally { tally.new ≡ tally.old }
+    {
+        let _ = self.log.window();
+        let alloc = self.alloc;
+        let settings = self.settings;
+        let outcomes = hold_all(alloc, &mut self.log, exposures)?;
+        let given = renew_all_or_remove(
+            &mut self.nights,
+            &mut self.log,
+            alloc,
+            &settings,
+            outcomes,
+        )?;
+        Ok(given)
     }
 
     /// Sets the window to these nights, and forgets the nights before it. The causes of a refusal

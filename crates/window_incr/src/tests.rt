@@ -52,6 +52,29 @@ fn one_tracklet(rt: HostRuntime) -> Result<(), Fail> {
     Ok(())
 }
 
+/// The exposures of two detection lines.
+fn exposures_of(alloc: Global, line: &[u8], other: &[u8]) -> Result<Vec<Exposure>, Fail> {
+    let mut list = Vec::new(alloc);
+    list.push(read_line(alloc, line)?)?;
+    list.push(read_line(alloc, other)?)?;
+    Ok(gather(alloc, list)?)
+}
+
+#[test]
+fn tracklet_of_a_delivery(rt: HostRuntime) -> Result<(), Fail> {
+    let alloc = rt.alloc();
+    let mut tally = Tally::zero();
+    let mut linker = Linker::new(alloc, Settings::standard())?;
+    assert!(rt; linker.set_window(59_000, 59_029, &mut tally).is_ok());
+    let line = b"a1 59000.250000 10.000000 5.000000 20.0 568 obj1";
+    let other = b"a2 59000.270000 10.002000 5.000000 20.0 568 obj1";
+    let exposures = exposures_of(alloc, line, other)?;
+    assert_eq!(rt; linker.hold_all(exposures, &mut tally)?.len(), 2);
+    assert_eq!(rt; linker.nights().len(), 1);
+    assert_eq!(rt; linker.tracklets(59_000)?.items().len(), 1);
+    Ok(())
+}
+
 #[test]
 fn laws_do_nothing(_rt: HostRuntime) {
     report_is_unique();

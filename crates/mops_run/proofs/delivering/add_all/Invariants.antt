@@ -1,7 +1,6 @@
-use Rattle.std.proofs.Common.{◌≡◌}
-use Rattle.mops_run.specs.Deliveries.{DeliversAll}
+use Rattle.std.proofs.Common.{◌≡◌, map}
+use Rattle.mops_run.specs.Deliveries.{reply_of}
 use Rattle.mops_run.proofs.delivering.add_all.Given as goal
 
-abbrev pub invariant-loop-exposure : goal.invariant-loop-exposure
-invariant-loop-exposure l =
-    DeliversAll l.initial.linker.state l.yielded l.replies.items l.linker.state × (l.tally ≡ l.initial.tally)
+abbrev pub invariant-loop-outcome : goal.invariant-loop-outcome
+invariant-loop-outcome l = l.replies.items ≡ map reply_of l.yielded

@@ -1,0 +1,18 @@
+use Rattle.std.proofs.Common.{◌≡◌, ◌↔◌, ◌++◌, [], IsTrue, ◌∙◌, refl, ◌<◌, ◌^◌, rules}
+use Rattle.std.proofs.lemmas.List.{append-nil}
+use Rattle.sky_units.specs.Motion.{Fits}
+use Rattle.bound_prune.proofs.Counted.{rises_by_one}
+use Rattle.bound_prune.proofs.fitting.fit_together.Goals as goal
+
+pub returns-clause-yes : goal.returns-clause-yes
+returns-clause-yes c =
+    let first : c.spots-first.result.now ≡ c.args.a.now.spots = c.spots-first.ensures.value ∙ c.tracklet.ensures in
+    let second : c.spots-second.result.now ≡ c.args.b.now.spots = c.spots-second.ensures.value ∙ c.tracklet-2.ensures in
+    let alone : c.args.a.now.spots ++ c.args.b.now.spots ++ [] ≡ c.args.a.now.spots ++ c.args.b.now.spots = append-nil (c.args.a.now.spots ++ c.args.b.now.spots) in
+    let told : IsTrue c.fits_joined.result ↔ Fits c.args.settings.now (c.args.a.now.spots ++ c.args.b.now.spots) = rw (first, second, alone) at c.fits_joined.ensures.fits in
+    (λ t. record { tested = c.if-not-are_arc.ensures.0 refl; fits = told.0 t }, λ w. told.1 w.fits)
+
+pub returns-clause-tests : goal.returns-clause-tests
+returns-clause-tests c =
+    let few : c.args.tally.now.tests < 2 ^ 64 = search rules in
+    rises_by_one c.args.tally.now.tests c.fits_joined.new.tally.tests few c.fits_joined.ensures.counted

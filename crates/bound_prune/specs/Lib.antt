@@ -1,0 +1,11 @@
+pub mod Bounds
+pub mod BoxEnds
+pub mod Boxes
+pub mod Decided
+pub mod FourSpots
+pub mod Lossless
+pub mod Motions
+pub mod Pruning
+pub mod Rounding
+pub mod Times
+pub mod Wanted

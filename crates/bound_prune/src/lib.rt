@@ -1,0 +1,18 @@
+//! Boxes of tracklets, and the bounds that tell which of them can fit together.
+//!
+//! The box of a tracklet holds where and when it was, and the rates that its tolerances leave. Two tracklets that fit together
+//! differ in rate by no more than the acceleration allows, and the way from one to the other is what their rates say.
+#![tactic(auto)]
+
+pub use boxes::TrackletBox;
+pub use pruning::{PairPrune, TriplePrune};
+
+mod boxes;
+mod fitting;
+mod following;
+mod pruning;
+mod rates;
+#[cfg(test)]
+mod tests;
+mod times;
+mod ways;

@@ -1,0 +1,11 @@
+pub mod AllLed
+pub mod Branches
+pub mod Fitting
+pub mod Largest
+pub mod Leaders
+pub mod Lists
+pub mod Nodes
+pub mod Parting
+pub mod Paying
+pub mod Seen
+pub mod Sorted

@@ -1,0 +1,10 @@
+pub mod Basics
+pub mod Families
+pub mod Places
+pub mod Entered
+pub mod Remaining
+pub mod Emptied
+pub mod Changed
+pub mod Exits
+pub mod Compacted
+pub mod Cases

@@ -1,0 +1,2 @@
+pub mod FittingSets
+pub mod Listing

@@ -1,0 +1,15 @@
+pub mod Besides
+pub mod Choices
+pub mod Chosen
+pub mod Decided
+pub mod Gathering
+pub mod Heredity
+pub mod MaximalTracks
+pub mod Members
+pub mod NightParts
+pub mod NumberSets
+pub mod Pairing
+pub mod Putting
+pub mod Seating
+pub mod SkyFits
+pub mod SortedSets

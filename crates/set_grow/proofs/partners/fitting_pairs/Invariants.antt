@@ -1,0 +1,9 @@
+use Rattle.std.proofs.Common.{length}
+use Rattle.set_grow.proofs.Pairing.{AreFoundOf}
+use Rattle.set_grow.proofs.partners.fitting_pairs.Given as goal
+
+abbrev pub invariant-loop-one : goal.invariant-loop-one
+invariant-loop-one l = AreFoundOf l.fn.sky l.fn.item l.fn.partners l.rest l.pairs.items
+
+abbrev pub decreases-loop-one : goal.decreases-loop-one
+decreases-loop-one l = length l.rest

@@ -1,6 +1,0 @@
-use Rattle.std.proofs.Common.{◌≡◌, take}
-use Rattle.sky_units.specs.TrackletData.{spots_of}
-use Rattle.window_incr.proofs.answers.spots_of.Given as goal
-
-abbrev pub invariant-loop-tracklet : goal.invariant-loop-tracklet
-invariant-loop-tracklet l = l.spots.items ≡ spots_of (take l.tracklet-index l.tracklet-items)
