@@ -14,7 +14,7 @@ use Rattle.sky_units.specs.Ranges.{IsBetween}
 use Rattle.sky_units.specs.SettingsData.{SettingsData}
 use Rattle.sky_units.specs.declared.axis.Axis.{Axis}
 use Rattle.box_tree.specs.declared.bounds.Bounds.{Bounds}
-use Rattle.bound_prune.specs.Bounds.{gained_in, longest, shortest, way}
+use Rattle.bound_prune.specs.Bounds.{gained_in, kept_within, longest, shortest, way}
 
 passed : (a b : ℤ) → le_z a b ≡ true → a ≤ℤ b
 passed a b h = grind (arith, ints)
@@ -120,3 +120,13 @@ wide_plain rates time f h =
     let few : unsigned_abs time ≤ 29999999 = omega (arith, ints) in
     let size : unsigned_abs (rates *ℤ time) ≤ 9223372036854775808 * 29999999 = product_most rates time 9223372036854775808 29999999 small few in
     to_z-of_z w128 (rates *ℤ time) (fits_signed_from_abs w128 (rates *ℤ time) (omega (arith, size)))
+
+-- a number that is cut at the ends of a range
+pub kept_is : (least most z : ℤ) → int_max least (int_min z most) ≡ kept_within least most z
+unfolding kept_within
+kept_is least most z = refl
+
+-- and one within it
+pub kept_same : (least most z : ℤ) → least ≤ℤ z → z ≤ℤ most → kept_within least most z ≡ z
+unfolding kept_within
+kept_same least most z h k = omega (arith, ints, clamps)

@@ -2,6 +2,7 @@ pub mod Bounds
 pub mod BoxEnds
 pub mod Boxes
 pub mod Decided
+pub mod EndsData
 pub mod FourSpots
 pub mod Lossless
 pub mod Motions

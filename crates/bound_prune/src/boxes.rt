@@ -2,14 +2,13 @@
 
 ghost use Rattle.std.specs.Prelude.{◌≡◌, ◌↔◌, IsTrue};
 ghost use Rattle.std.proofs.Common.{lit≤};
-ghost use Rattle.sky_units.specs.TrackletData.{IsTracklet};
 ghost use Rattle.bound_prune.specs.Boxes.{box_low, box_high};
-ghost use Rattle.bound_prune.specs.BoxEnds.{AreEnds, boxed};
+ghost use Rattle.bound_prune.specs.BoxEnds.{boxed};
 ghost use Rattle.bound_prune.specs.Wanted.{HasTolerances};
 
-use crate::rates::{Rates, rates_of};
+use crate::ends::TrackletEnds;
 use box_tree::Located;
-use sky_units::{Axis, Settings, Spot, Tracklet};
+use sky_units::{Settings, Tracklet};
 use std::marker::Model;
 
 /// A tracklet that stands in a tree by its place, its time and its rates. Its box has five axes: 0 the right ascension and 1 the
@@ -20,18 +19,7 @@ pub struct TrackletBox {
     tracklet: Tracklet,
     tol_ra: i64,
     tol_dec: i64,
-    ends: Ends,
-}
-
-/// Where the box of a tracklet begins and ends.
-#[derive(Clone, Copy)]
-struct Ends {
-    ra: i64,
-    dec: i64,
-    first_epoch: i64,
-    last_epoch: i64,
-    ra_rates: Rates,
-    dec_rates: Rates,
+    ends: TrackletEnds,
 }
 
 impl Model for TrackletBox {
@@ -50,7 +38,7 @@ impl TrackletBox {
     pub fn make(tracklet: Tracklet, settings: &Settings) -> TrackletBox
         ensures { result ≡ boxed tracklet settings.now.tol_ra settings.now.tol_dec }
     {
-        let ends = ends_of(tracklet.spots(), settings);
+        let ends = TrackletEnds::of(tracklet.spots(), settings);
         TrackletBox {
             tracklet,
             tol_ra: settings.tol_ra,
@@ -92,41 +80,26 @@ impl Located for TrackletBox {
     const AXES: usize = 5;
 
     fn low(&self, axis: usize) -> i64 {
+        let ends = &self.ends;
         match axis {
-            0 => self.ends.ra,
-            1 => self.ends.dec,
-            2 => self.ends.first_epoch,
-            3 => self.ends.ra_rates.least,
-            _ => self.ends.dec_rates.least,
+            0 => ends.ra,
+            1 => ends.dec,
+            2 => ends.first_epoch,
+            3 => ends.ra_rates.least,
+            _ => ends.dec_rates.least,
         }
     }
 
     fn high(&self, axis: usize) -> i64 {
+        let ends = &self.ends;
         match axis {
-            0 => self.ends.ra,
-            1 => self.ends.dec,
-            2 => self.ends.last_epoch,
-            3 => self.ends.ra_rates.greatest,
-            _ => self.ends.dec_rates.greatest,
+            0 => ends.ra,
+            1 => ends.dec,
+            2 => ends.last_epoch,
+            3 => ends.ra_rates.greatest,
+            _ => ends.dec_rates.greatest,
         }
     }
 
     ghost few_axes = { (lit≤ tt, lit≤ tt) };
-}
-
-/// The ends of the box of a tracklet's spots.
-fn ends_of(spots: &[Spot], settings: &Settings) -> Ends
-    requires { IsTracklet spots.now }
-    ensures { AreEnds (boxed spots.now settings.now.tol_ra settings.now.tol_dec) result }
-{
-    let first = &spots[0];
-    let last = &spots[spots.len() - 1];
-    Ends {
-        ra: first.ra,
-        dec: first.dec,
-        first_epoch: first.epoch,
-        last_epoch: last.epoch,
-        ra_rates: rates_of(Axis::Ra, settings.tol_ra, first, last),
-        dec_rates: rates_of(Axis::Dec, settings.tol_dec, first, last),
-    }
 }

@@ -5,9 +5,11 @@
 #![tactic(auto)]
 
 pub use boxes::TrackletBox;
+pub use ends::TrackletEnds;
 pub use pruning::{PairPrune, TriplePrune};
 
 mod boxes;
+mod ends;
 mod fitting;
 mod following;
 mod pruning;
@@ -15,4 +17,5 @@ mod rates;
 #[cfg(test)]
 mod tests;
 mod times;
+mod travel;
 mod ways;

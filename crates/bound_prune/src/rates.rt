@@ -3,8 +3,9 @@
 ghost use Rattle.std.specs.Prelude.{◌≡◌, ◌<◌, ◌↔◌, pos, negsuc, ◌-ℤ◌, ◌*ℤ◌, ◌≤ℤ◌, ◌<ℤ◌, IsTrue};
 ghost use Rattle.sky_units.specs.Motion.{acceleration as acceleration_on};
 ghost use Rattle.sky_units.specs.Ranges.{IsBetween};
-ghost use Rattle.bound_prune.specs.BoxEnds.{AreRates};
+ghost use Rattle.bound_prune.specs.BoxEnds.{AreRates, DifferLittle, rates_in};
 ghost use Rattle.bound_prune.specs.Boxes.{floor_of, ceiling_of};
+ghost use Rattle.bound_prune.specs.EndsData.{AreUsual};
 ghost use Rattle.bound_prune.specs.Bounds.{RatesAgree, longest as longest_of, rate_axis as rate_axis_of};
 
 use box_tree::Bounds;
@@ -19,7 +20,9 @@ const FAR_APART: i64 = 100_000_000;
 /// The least and the greatest rate, in 10^-6 degree per day.
 #[derive(Clone, Copy)]
 pub struct Rates {
+    /// The least rate.
     pub least: i64,
+    /// The greatest rate.
     pub greatest: i64,
 }
 
@@ -27,7 +30,8 @@ pub struct Rates {
 pub fn rates_of(axis: Axis, tol: i64, first: &Spot, last: &Spot) -> Rates
     requires tol { IsBetween (pos 0) (pos 100000) tol }
     requires later { first.now.epoch <ℤ last.now.epoch }
-    ensures { AreRates axis tol first.now last.now result }
+    ensures are { AreRates axis tol first.now last.now result }
+    ensures usual { AreUsual result }
 {
     let ticks = last.epoch - first.epoch;
     let moved = offset(axis, first, last);
@@ -82,9 +86,36 @@ pub fn rates_agree(axis: Axis, settings: &Settings, a: &Bounds, b: &Bounds, long
     requires range { IsBetween (pos 0) (pos 29999999) longest }
     ensures { IsTrue result ↔ RatesAgree axis settings.now a.now b.now }
 {
-    let most = acceleration(axis, settings) * longest;
+    differ_little(
+        axis,
+        settings,
+        rates_on(axis, a),
+        rates_on(axis, b),
+        longest,
+    )
+}
+
+/// The rates of a box on an axis of the sky.
+fn rates_on(axis: Axis, a: &Bounds) -> Rates
+    ensures { result ≡ rates_in axis a.now }
+{
     let rate = rate_axis(axis);
-    is_above_by(a.low[rate], b.high[rate], most) && is_above_by(b.low[rate], a.high[rate], most)
+    Rates {
+        least: a.low[rate],
+        greatest: a.high[rate],
+    }
+}
+
+/// Whether rates differ by no more than the acceleration allows over some time.
+pub fn differ_little(axis: Axis, settings: &Settings, a: Rates, b: Rates, longest: i64) -> bool
+    requires { IsBetween (pos 0) (pos 29999999) longest }
+    ensures { IsTrue result ↔ DifferLittle axis settings.now a b longest }
+{
+    let most = acceleration(axis, settings) * longest;
+    if !is_above_by(a.least, b.greatest, most) {
+        return false;
+    }
+    is_above_by(b.least, a.greatest, most)
 }
 
 /// Whether one rate is above another by no more than so much in so many ticks of a day.

@@ -50,3 +50,12 @@ fn kept_difference(from: i64, to: i64, most: i64) -> i64
 {
     to.saturating_sub(from).clamp(0, most)
 }
+
+/// A time, or the end of the range from 0 to `most` that it lies beyond.
+pub fn kept(time: i64, most: i64) -> i64
+    requires { IsBetween (pos 0) (pos 29999999) most }
+    ensures value { result ≡ kept_within (pos 0) most time }
+    ensures range { IsBetween (pos 0) most result }
+{
+    time.clamp(0, most)
+}

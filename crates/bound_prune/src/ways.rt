@@ -14,10 +14,10 @@ use box_tree::Bounds;
 use sky_units::{Axis, Settings};
 
 /// One turn of the circle of right ascension, in 10^-6 degree.
-const FULL_TURN: i64 = 360_000_000;
+pub const FULL_TURN: i64 = 360_000_000;
 
 /// Two mean rates per day of 1,000,000 ticks, over a time in ticks, are so many ways in 10^-6 degree.
-const WAY_SCALE: i64 = 2_000_000;
+pub const WAY_SCALE: i64 = 2_000_000;
 
 /// Whether some way in declination leads from one box to another.
 pub fn is_open(settings: &Settings, a: &Bounds, b: &Bounds, times: &Times) -> bool
@@ -147,7 +147,7 @@ fn greatest(axis: Axis, a: &Bounds, b: &Bounds) -> i64
 }
 
 /// The most that the acceleration adds to two rates together while the tracklets last.
-fn gained(axis: Axis, settings: &Settings, times: &Times) -> i64
+pub fn gained(axis: Axis, settings: &Settings, times: &Times) -> i64
     requires lasts { IsBetween (pos 0) (pos 59999998) times.now.lasting }
     ensures value { result ≡ gained_in axis settings.now times.now.lasting }
     ensures range { IsBetween (pos 1) (pos 30000000) result }
@@ -196,7 +196,7 @@ fn reaches(tol: i64, distance: i64, rates: i64, times: &Times) -> bool
 }
 
 /// The farthest that rates lead over some of the times.
-fn farthest(rates: i64, times: &Times) -> i128
+pub fn farthest(rates: i64, times: &Times) -> i128
     requires { AreInOrder times.now }
     ensures { result ≡ int_max (rates *ℤ times.now.shortest) (rates *ℤ times.now.longest) }
 {

@@ -4,7 +4,7 @@ use Rattle.std.specs.List.{Contains}
 use Rattle.sky_units.specs.Tracks.{AreAmong}
 use Rattle.closed_sets.specs.Families.{IsClosed, IsHereditary, IsSet}
 use Rattle.closed_sets.specs.Around.{FitTogether}
-use Rattle.closed_sets.specs.Search.{IsUnion}
+use Rattle.closed_sets.specs.Search.{AreBeside, AreOthers, IsUnion}
 use Rattle.closed_sets.proofs.Lists.{among, among_cons, among_trans, in_front, in_part, in_rest, in_whole, part_is_set, part_of}
 
 pub if_ok : {T E : Type 0} (P Q : T → Type 0) (r : Result T E) → ((x : T) → P x → Q x) → IfOk r P → IfOk r Q
@@ -61,6 +61,13 @@ module _ (Fits : List ℕ → Type 0) where
       part_fits numbers (part_of numbers t.whole) t (part_is_set numbers t.whole (law.sets t.whole t.fits)) (among (part_of numbers t.whole) numbers (λ x c. (in_part numbers t.whole t.has x).0 c)),
       in_part numbers t.whole t.has,
     )
+
+  pub others_beside : (set others : List ℕ) → AreOthers Fits set others → AreBeside Fits set others
+  others_beside set others o = record {
+    different = o.different;
+    new = λ x c. ((o.exactly x).0 c).0;
+    complete = λ x new t. (o.exactly x).1 (new, t);
+  }
 
   pub closed_is_full : (set : List ℕ) → IsClosed Fits set ↔ (Fits set × ((x : ℕ) → FitTogether Fits (x ∷ set) → Contains set x))
   closed_is_full set = (

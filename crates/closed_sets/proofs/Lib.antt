@@ -1,11 +1,14 @@
-pub mod AllLed
 pub mod Branches
 pub mod Fitting
+pub mod InThree
 pub mod Largest
-pub mod Leaders
+pub mod Pairs
 pub mod Lists
 pub mod Nodes
 pub mod Parting
+pub mod Partners
 pub mod Paying
+pub mod Rooted
 pub mod Seen
 pub mod Sorted
+pub mod Starts

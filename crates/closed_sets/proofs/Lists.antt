@@ -1,16 +1,18 @@
 -- Members of lists, and lists of different members.
-use Rattle.std.proofs.Common.{◌≡◌, ℕ, zero, suc, ◌+◌, ◌<◌, ◌≤◌, Bool, true, false, List, [], ◌∷◌, ◌++◌, ◌⊎◌, inl, inr, length, take, drop, get_or, sym, ◌∙◌, ap, subst, refl, arith, append_assoc, ◌↔◌}
+use Rattle.std.proofs.Common.{◌≡◌, ℕ, zero, suc, ◌+◌, ◌<◌, ◌≤◌, ◌==◌, Bool, true, false, not, cond, List, [], ◌∷◌, ◌++◌, ◌⊎◌, inl, inr, length, take, drop, get_or, sym, ◌∙◌, ap, subst, refl, arith, append_assoc, ◌↔◌}
 use Rattle.std.specs.List.{Contains, filter}
 use Rattle.std.specs.List.Sorted.{IsStrictlySortedBy}
 use Rattle.std.specs.Ordering.{nat_cmp}
 use Rattle.std.specs.declared.cmp.Ordering.TheVariants.{Less}
-use Rattle.std.proofs.lemmas.Bool.{cases_eq}
-use Rattle.std.proofs.lemmas.Bool.Decides.{nat_tests}
+use Rattle.std.proofs.lemmas.Bool.{cases_Bool, cases_eq, false≢true}
+use Rattle.std.specs.Bool.{Decides}
+use Rattle.std.proofs.lemmas.Bool.Decides.{Decides-eqb, Decides-like, Decides-or, nat_tests}
 use Rattle.std.proofs.lemmas.List.{take-append-drop, take_more}
 use Rattle.std.proofs.lemmas.List.Elements.{All-contains, All-from_recursion, Contains-append_cases, Contains-append_left, Contains-append_right, Contains-get_or}
 use Rattle.std.proofs.lemmas.List.Kept.{IsStrictlySortedBy-filter}
 use Rattle.sky_units.specs.Tracks.{AreAmong}
 use Rattle.closed_sets.specs.Counting.{AreDifferent}
+use Rattle.closed_sets.specs.Search.{is_one}
 pub use Rattle.sky_units.proofs.Members.{front_or_rest, in_filter, in_front, in_map, in_none, in_rest, of_filter as from_filter, of_map as from_map}
 
 pub empty : {X : Type 0} → (xs : List X) → length xs ≡ 0 → xs ≡ []
@@ -28,6 +30,28 @@ in_or_not (y ∷ ys) x = elim (cases_eq y x) [
   | inr differ ↦ elim (in_or_not ys x) [
     | inl c ↦ inl (in_rest y ys x c)
     | inr never ↦ inr (λ c. elim (front_or_rest y ys x c) [ inl e ↦ differ e | inr d ↦ never d ])
+  ]
+]
+
+-- one list has a number that another lacks, or all its numbers are there
+pub outside_or_in : (xs ys : List ℕ) → ((x : ℕ) × Contains xs x × (¬ Contains ys x)) ⊎ ((x : ℕ) → Contains xs x → Contains ys x)
+outside_or_in [] ys = inr (λ x c. absurd (in_none x c))
+outside_or_in (x ∷ xs) ys = elim (in_or_not ys x) [
+  | inr new ↦ inl (x, in_front x xs, new)
+  | inl here ↦ elim (outside_or_in xs ys) [
+    | inl w ↦ inl (w.0, in_rest x xs w.0 w.1, w.2)
+    | inr h ↦ inr (λ y c. elim (front_or_rest x xs y c) [ inl e ↦ subst (Contains ys) e here | inr d ↦ h y d ])
+  ]
+]
+
+-- two lists have a number in common, or none
+pub common_or_none : (xs ys : List ℕ) → ((x : ℕ) × Contains xs x × Contains ys x) ⊎ ((x : ℕ) → Contains xs x → ¬ Contains ys x)
+common_or_none [] ys = inr (λ x c. absurd (in_none x c))
+common_or_none (x ∷ xs) ys = elim (in_or_not ys x) [
+  | inl here ↦ inl (x, in_front x xs, here)
+  | inr new ↦ elim (common_or_none xs ys) [
+    | inl w ↦ inl (w.0, in_rest x xs w.0 w.1, w.2)
+    | inr h ↦ inr (λ y c d. elim (front_or_rest x xs y c) [ inl e ↦ new (subst (Contains ys) (sym e) d) | inr k ↦ h y k d ])
   ]
 ]
 
@@ -82,6 +106,19 @@ different_apart (y ∷ xs) ys h x c = elim (front_or_rest y xs x c) [
   | inr k ↦ different_apart xs ys h.1 x k
 ]
 
+pub few_filter : {X : Type 0} → (p : X → Bool) (xs : List X) → length (filter p xs) ≤ length xs
+few_filter p [] = omega arith
+few_filter p (x ∷ xs) =
+    let few = few_filter p xs in
+    elim (p x) as (λ b. length (cond b (x ∷ filter p xs) (filter p xs)) ≤ length (x ∷ xs)) [ true ↦ omega arith | false ↦ omega arith ]
+
+pub different_filter : {X : Type 0} → (p : X → Bool) (xs : List X) → AreDifferent xs → AreDifferent (filter p xs)
+different_filter p [] d = tt
+different_filter p (x ∷ xs) d = elim (p x) as (λ b. AreDifferent (cond b (x ∷ filter p xs) (filter p xs))) [
+  | true ↦ (λ c. d.0 (from_filter p xs x c).0, different_filter p xs d.1)
+  | false ↦ different_filter p xs d.1
+]
+
 -- ---- different members of one list that are all in another are no more than its members
 without : {X : Type 0} → (ys : List X) (x : X) → Contains ys x → (zs : List X) × (length ys ≡ suc (length zs)) × ((y : X) → Contains ys y → (x ≡ y) ⊎ Contains zs y)
 without [] x c = absurd (in_none x c)
@@ -117,6 +154,10 @@ first_least x xs y h c = less_than x y (All-contains (λ z. nat_cmp x z ≡ Less
 pub rest_is_set : (x : ℕ) (xs : List ℕ) → IsStrictlySortedBy nat_cmp (x ∷ xs) → IsStrictlySortedBy nat_cmp xs
 unfolding IsStrictlySortedBy
 rest_is_set x xs h = h.1
+
+pub one_is_set : (x : ℕ) → IsStrictlySortedBy nat_cmp (x ∷ [])
+unfolding IsStrictlySortedBy
+one_is_set x = (tt, tt)
 
 pub different_set : (xs : List ℕ) → IsStrictlySortedBy nat_cmp xs → AreDifferent xs
 different_set [] h = tt
@@ -170,6 +211,15 @@ in_longer (suc m) (suc n) (y ∷ ys) x h c = elim (front_or_rest y (take m ys) x
 pub in_taken : {X : Type 0} → (n : ℕ) (xs : List X) (x : X) → Contains (take n xs) x → Contains xs x
 in_taken n xs x c = subst (λ ys. Contains ys x) (take-append-drop n xs) (Contains-append_left (take n xs) (drop n xs) x c)
 
+pub in_dropped : {X : Type 0} → (n : ℕ) (xs : List X) (x : X) → Contains (drop n xs) x → Contains xs x
+in_dropped n xs x c = subst (λ ys. Contains ys x) (take-append-drop n xs) (Contains-append_right (take n xs) (drop n xs) x c)
+
+pub taken_or_dropped : {X : Type 0} → (n : ℕ) (xs : List X) (x : X) → Contains xs x → Contains (take n xs) x ⊎ Contains (drop n xs) x
+taken_or_dropped n xs x c = Contains-append_cases (take n xs) (drop n xs) x (subst (λ ys. Contains ys x) (sym (take-append-drop n xs)) c)
+
+pub taken_apart : {X : Type 0} → (n : ℕ) (xs : List X) → AreDifferent xs → (x : X) → Contains (take n xs) x → ¬ Contains (drop n xs) x
+taken_apart n xs d x c = different_apart (take n xs) (drop n xs) (subst AreDifferent (sym (take-append-drop n xs)) d) x c
+
 -- ---- the members of a whole that are in a list
 is_in : List ℕ → ℕ → Bool
 is_in xs x = elim (in_or_not xs x) [ inl c ↦ true | inr never ↦ false ]
@@ -195,3 +245,17 @@ in_part xs whole a x = (
 pub part_is_set : (xs whole : List ℕ) → IsStrictlySortedBy nat_cmp whole → IsStrictlySortedBy nat_cmp (part_of xs whole)
 unfolding part_of
 part_is_set xs whole s = IsStrictlySortedBy-filter nat_cmp (is_in xs) whole s
+
+-- ---- the test of membership
+pub one_of : (numbers : List ℕ) (x : ℕ) → Decides (is_one numbers x) (Contains numbers x)
+one_of [] x = (λ e. absurd (cc), λ c. absurd (in_none x c))
+one_of (y ∷ ys) x = Decides-like (is_one (y ∷ ys) x)
+    (λ w. elim w [ inl e ↦ subst (Contains (y ∷ ys)) e (in_front y ys) | inr c ↦ in_rest y ys x c ])
+    (λ c. front_or_rest y ys x c)
+    (Decides-or (y == x) (is_one ys x) (Decides-eqb y x) (one_of ys x))
+
+pub not_one : (numbers : List ℕ) (x : ℕ) → (not (is_one numbers x) ≡ true) ↔ (¬ Contains numbers x)
+not_one numbers x = elim (cases_Bool (is_one numbers x)) [
+  | inl t ↦ (λ e. absurd (false≢true (subst (λ (b : Bool). not b ≡ true) t e)), λ n. absurd (n ((one_of numbers x).0 t)))
+  | inr f ↦ (λ e c. false≢true (sym f ∙ (one_of numbers x).1 c), λ n. subst (λ (b : Bool). not b ≡ true) (sym f) refl)
+]

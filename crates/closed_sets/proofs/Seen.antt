@@ -9,7 +9,7 @@ use Rattle.closed_sets.specs.Families.{IsSet}
 use Rattle.closed_sets.specs.Around.{AreFittingPairs, IsFittingPair}
 use Rattle.closed_sets.specs.Objects.{IsSeen, seen_is_hereditary}
 use Rattle.closed_sets.proofs.Fitting.{part_fits, together}
-use Rattle.closed_sets.proofs.Leaders.{pair_is}
+use Rattle.closed_sets.proofs.Pairs.{pair_is}
 use Rattle.closed_sets.proofs.Lists.{among, in_front, in_none, in_rest, in_whole}
 
 module _ (objects : List (List ℕ)) (item : ℕ) where

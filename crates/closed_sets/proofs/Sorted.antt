@@ -1,8 +1,9 @@
 -- Sorted lists of sets.
-use Rattle.std.proofs.Common.{◌≡◌, ℕ, Bool, true, nat_eq, List, [], ◌∷◌, map, refl, eqb, sym, ◌∙◌, subst, ◌↔◌}
+use Rattle.std.proofs.Common.{◌≡◌, ℕ, Bool, true, nat_eq, inl, inr, List, [], ◌∷◌, map, get_or, arith, Result, Ok, Err, refl, eqb, sym, ◌∙◌, subst, ◌↔◌}
 use Rattle.std.specs.Cmp.Lexicographic.{pointwise, slice_cmp, texts_ties}
 use Rattle.std.specs.List.{Contains, dedup}
-use Rattle.std.specs.List.Sorted.{IsPermutation, IsSorted, IsStrictlySortedBy}
+use Rattle.std.specs.List.Sorted.{IsBinarySearchResult, IsPermutation, IsSorted, IsStrictlySortedBy}
+use Rattle.std.specs.Result.{is_ok}
 use Rattle.std.specs.Ordering.{nat_cmp}
 use Rattle.std.specs.declared.cmp.Ordering.{Ordering}
 use Rattle.std.specs.declared.cmp.Ordering.TheVariants.{Less}
@@ -11,8 +12,13 @@ use Rattle.std.proofs.lemmas.List.Elements.{All-from_recursion, All-map, All-wea
 use Rattle.std.proofs.lemmas.List.Kept.{Any-dedup, Contains-from_dedup, IsStrictlySortedBy-dedup}
 use Rattle.std.proofs.lemmas.Bool.Decides.{Decides-eqb}
 use Rattle.std.proofs.lemmas.Slice.Eq.{slice_eq-Decides}
-use Rattle.std.proofs.lemmas.List.Sorted.{Contains-permutation, IsPermutation-sym}
-use Rattle.closed_sets.proofs.Lists.{from_map, in_map}
+use Rattle.std.proofs.lemmas.List.Sorted.{Contains-permutation, IsPermutation-sym, searched}
+use Rattle.std.proofs.lemmas.List.{get_or_default}
+use Rattle.std.proofs.lemmas.Map.Keys.{non_decreasing_from_sorted}
+use Rattle.std.proofs.lemmas.Bool.{cases_Bool, cases_lt}
+use Rattle.closed_sets.specs.Families.{IsSet}
+use Rattle.closed_sets.specs.Search.{is_one}
+use Rattle.closed_sets.proofs.Lists.{from_map, in_map, one_of}
 
 -- whether two numbers are the same
 abbrev pub nat_same : ℕ → ℕ → Bool
@@ -55,3 +61,21 @@ module _ {X : Type 0} (f : X → List ℕ) where
         let same : f w.0 ≡ f x = exact_lists (f w.0) (f x) any.4 in
         subst (Contains (map f kept)) (sym same ∙ w.2) (in_map f kept x (subst (λ (l : List X). Contains l x) (sym e) there)),
   )
+
+-- ---- a search in a set
+pub search_is : (set : List ℕ) (x : ℕ) (found : Result ℕ ℕ) → IsSet set → IsBinarySearchResult (λ y. nat_cmp y x) set found → is_ok found ≡ is_one set x
+search_is set x (Ok place) s r =
+    let w = searched set x (Ok place) r (λ i j ij l. non_decreasing_from_sorted set s i j 0 ij l) in
+    sym ((one_of set x).1 (place, w.0, get_or_default set place x 0 w.0 ∙ w.1))
+search_is set x (Err place) s r =
+    let w = searched set x (Err place) r (λ i j ij l. non_decreasing_from_sorted set s i j 0 ij l) in
+    elim (cases_Bool (is_one set x)) [
+      | inr f ↦ sym f
+      | inl t ↦
+          let c = (one_of set x).0 t in
+          let e : get_or set c.0 0 ≡ x = get_or_default set c.0 0 x c.1 ∙ c.2 in
+          elim (cases_lt c.0 place) [
+            | inl l ↦ (let below = w.1 c.0 l in absurd (omega arith))
+            | inr l ↦ (let above = w.2 c.0 l c.1 in absurd (omega arith))
+          ]
+    ]

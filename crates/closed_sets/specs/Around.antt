@@ -28,13 +28,23 @@ AreFittingPairs Fits item pairs = (pair : ℕ × ℕ) → Contains pairs pair �
 abbrev pub HasBothOfEach : List (ℕ × ℕ) → List ℕ → Type 0
 HasBothOfEach pairs partners = All (λ (pair : ℕ × ℕ). Contains partners pair.0 × Contains partners pair.1) pairs
 
--- a fitting set of three or more that holds an item
-pub record IsFittingWith (Fits : List ℕ → Type 0) (item : ℕ) (set : List ℕ) : Type 0 where
+-- a set holds none of some numbers
+abbrev pub IsFree : List ℕ → List ℕ → Type 0
+IsFree numbers set = (x : ℕ) → Contains numbers x → ¬ Contains set x
+
+-- a fitting set of three or more that holds an item and none of the done numbers
+pub record IsFittingWith (Fits : List ℕ → Type 0) (item : ℕ) (done set : List ℕ) : Type 0 where
   pub fits : Fits set
   pub has : Contains set item
+  pub free : IsFree done set
   pub large : 3 ≤ length set
 
--- exactly the closed sets of three or more that hold an item, each once, in lexicographic order
-pub record AreClosedSetsWith (Fits : List ℕ → Type 0) (item : ℕ) (sets : List (List ℕ)) : Type 0 where
+-- each number of a fitting set of three or more that holds an item is the item or one of some partners
+abbrev pub HasPartners : (List ℕ → Type 0) → ℕ → List ℕ → Type 0
+HasPartners Fits item partners = (set : List ℕ) → Fits set → Contains set item → 3 ≤ length set → AreAmong set (item ∷ partners)
+
+-- exactly the closed sets of three or more that hold an item and none of the done numbers, each once, in
+-- lexicographic order
+pub record AreClosedSetsWith (Fits : List ℕ → Type 0) (item : ℕ) (done : List ℕ) (sets : List (List ℕ)) : Type 0 where
   pub in_order : IsStrictlySortedBy (slice_cmp nat_cmp) sets
-  pub exactly : (set : List ℕ) → Contains sets set ↔ (IsClosed Fits set × Contains set item × 3 ≤ length set)
+  pub exactly : (set : List ℕ) → Contains sets set ↔ (IsClosed Fits set × Contains set item × IsFree done set × 3 ≤ length set)

@@ -1,14 +1,10 @@
 -- The search for closed sets: from a set, over the numbers that fit with it, of which the first ones are excluded.
-use Rattle.std.specs.Prelude.{◌≡◌, ℕ, ◌+◌, ◌<◌, ◌≤◌, ◌↔◌, ◌⊎◌, List, [], ◌∷◌, ◌++◌, length, map, take}
-use Rattle.std.specs.List.{Contains}
+use Rattle.std.specs.Prelude.{◌≡◌, ℕ, ◌+◌, ◌<◌, ◌≤◌, ◌↔◌, ◌⊎◌, Bool, false, cond, nat_eq, not, IsTrue, List, [], ◌∷◌, ◌++◌, length, take, drop, get_or}
+use Rattle.std.specs.List.{Contains, filter, list_any}
 use Rattle.sky_units.specs.Tracks.{AreAmong}
 use Rattle.closed_sets.specs.Families.{IsSet, IsClosed}
-use Rattle.closed_sets.specs.Around.{FitTogether}
+use Rattle.closed_sets.specs.Around.{FitTogether, IsFree}
 use Rattle.closed_sets.specs.Counting.{AreDifferent}
-
--- a set holds none of the excluded numbers
-abbrev pub IsFree : List ℕ → List ℕ → Type 0
-IsFree excluded set = (x : ℕ) → Contains excluded x → ¬ Contains set x
 
 -- a closed set that has all of a set and none of the excluded numbers
 pub record IsClosedFrom (Fits : List ℕ → Type 0) (set excluded found : List ℕ) : Type 0 where
@@ -33,6 +29,12 @@ pub record IsGrown (Fits : List ℕ → Type 0) (set excluded found : List ℕ) 
 pub record AreOthers (Fits : List ℕ → Type 0) (set others : List ℕ) : Type 0 where
   pub different : AreDifferent others
   pub exactly : (x : ℕ) → Contains others x ↔ ((¬ Contains set x) × FitTogether Fits (x ∷ set))
+
+-- other numbers than those of a set, each once; each one that fits together with it is among them
+pub record AreBeside (Fits : List ℕ → Type 0) (set others : List ℕ) : Type 0 where
+  pub different : AreDifferent others
+  pub new : (x : ℕ) → Contains others x → ¬ Contains set x
+  pub complete : (x : ℕ) → (¬ Contains set x) → FitTogether Fits (x ∷ set) → Contains others x
 
 -- where the search stands: a fitting set and its others, of which the first ones are excluded
 pub record IsNode (Fits : List ℕ → Type 0) (set others : List ℕ) (first : ℕ) : Type 0 where
@@ -77,6 +79,16 @@ pub record AreParted (excluded candidates set numbers : List ℕ) (first : ℕ) 
   pub different : AreDifferent candidates → AreDifferent outside × AreDifferent inside
   pub size : length outside + length inside ≡ length candidates
 
+-- what a node's candidates come to: a largest set, outside which they are excluded too, and which is added where
+-- no excluded number fits together with it
+pub record IsSettled (Fits : List ℕ → Type 0) (set others : List ℕ) (first : ℕ) (numbers : List ℕ) (end : ℕ) (before after : List (List ℕ)) : Type 0 where
+  pub largest : List ℕ
+  pub is_largest : IsLargest Fits set (drop first others) largest
+  pub parted : AreParted (take first others) (drop first others) largest numbers end
+  pub closed : Bool
+  pub alone : IsTrue closed ↔ ((x : ℕ) → Contains (take first others) x → ¬ FitTogether Fits (x ∷ largest))
+  pub added : after ≡ cond closed (before ++ largest ∷ []) before
+
 -- the node of a set and one more number, before which the others are excluded
 pub record IsBranch (Fits : List ℕ → Type 0) (set before : List ℕ) (item : ℕ) (grown others : List ℕ) (first : ℕ) : Type 0 where
   pub node : IsNode Fits grown others first
@@ -87,19 +99,61 @@ pub record IsBranch (Fits : List ℕ → Type 0) (set before : List ℕ) (item :
 abbrev pub Gains : (List ℕ → Type 0) → List (List ℕ) → List (List ℕ) → Type 0
 Gains Kind before after = (set : List ℕ) → Contains after set ↔ (Contains before set ⊎ Kind set)
 
--- a set is led by a number: besides an item it has that number, and no lesser one
-pub record IsLed (item leader : ℕ) (set : List ℕ) : Type 0 where
-  pub has : AreAmong (item ∷ leader ∷ []) set
-  pub least : (x : ℕ) → Contains set x → (x ≡ item) ⊎ (leader ≤ x)
+-- a fitting set that lies in one of three or more
+pub record LiesInThree (Fits : List ℕ → Type 0) (set : List ℕ) : Type 0 where
+  pub fits : Fits set
+  pub whole : List ℕ
+  pub whole_fits : Fits whole
+  pub large : 3 ≤ length whole
+  pub has : AreAmong set whole
 
--- exactly the numbers that stand first in a pair, each once
-pub record AreLeaders (pairs : List (ℕ × ℕ)) (leaders : List ℕ) : Type 0 where
-  pub is_set : IsSet leaders
-  pub exactly : (x : ℕ) → Contains leaders x ↔ Contains (map (λ (pair : ℕ × ℕ). pair.0) pairs) x
+-- whether a number is one of some
+abbrev pub is_one : List ℕ → ℕ → Bool
+is_one numbers number = list_any (λ other. nat_eq other number) numbers
 
--- the node from which the sets are found that a number leads
-pub record IsRoot (Fits : List ℕ → Type 0) (item leader : ℕ) (pairs : List (ℕ × ℕ)) (set others : List ℕ) (first : ℕ) : Type 0 where
-  pub node : IsNode Fits set others first
-  pub exactly : (x : ℕ) → Contains set x ↔ Contains (item ∷ leader ∷ []) x
-  pub excluded : (x : ℕ) → Contains (take first others) x ↔ (Contains others x × x < leader)
-  pub paired : (x : ℕ) → Contains others x → Contains pairs (x, leader) ⊎ Contains pairs (leader, x)
+-- whether neither number of a pair is done
+abbrev pub is_pair_free : List ℕ → ℕ × ℕ → Bool
+is_pair_free done pair = cond (is_one done pair.0) false (not (is_one done pair.1))
+
+-- two numbers are a pair
+abbrev pub IsPaired : List (ℕ × ℕ) → ℕ → ℕ → Type 0
+IsPaired pairs x y = Contains pairs (x, y) ⊎ Contains pairs (y, x)
+
+-- the numbers of some pairs, each once; behind the first so many stand those of pairs without done numbers
+pub record ArePartners (pairs : List (ℕ × ℕ)) (done numbers : List ℕ) (first : ℕ) : Type 0 where
+  pub different : AreDifferent numbers
+  pub within : first ≤ length numbers
+  pub exactly : (x : ℕ) → Contains numbers x ↔ ((y : ℕ) × IsPaired pairs x y)
+  pub candidates : (x : ℕ) → Contains (drop first numbers) x ↔ ((¬ Contains done x) × ((y : ℕ) × (¬ Contains done y) × IsPaired pairs x y))
+
+-- where the search around an item begins: at the item alone, with candidates that are paired with each other
+pub record IsStart (Fits : List ℕ → Type 0) (item : ℕ) (pairs : List (ℕ × ℕ)) (set others : List ℕ) (first : ℕ) : Type 0 where
+  pub alone : set ≡ item ∷ []
+  pub node : IsNode (LiesInThree Fits) set others first
+  pub some : first < length others
+  pub paired : (x : ℕ) → Contains (drop first others) x → ((y : ℕ) × Contains (drop first others) y × IsPaired pairs x y)
+
+-- an item and its partner at a place, and those of the others that are paired with the two
+pub record IsRoot (item : ℕ) (pairs : List (ℕ × ℕ)) (others : List ℕ) (place : ℕ) (set numbers : List ℕ) (first : ℕ) : Type 0 where
+  pub union : IsUnion (item ∷ []) (get_or others place 0 ∷ []) set
+  pub partners : List ℕ
+  pub exactly : (x : ℕ) → Contains partners x ↔ IsPaired pairs (get_or others place 0) x
+  pub is : numbers ≡ filter (is_one partners) (take place others) ++ filter (is_one partners) (drop (place + 1) others)
+  pub at : first ≡ length (filter (is_one partners) (take place others))
+
+-- some numbers without an item, each once: the done ones, and behind the first so many the others
+pub record AreSplit (item : ℕ) (done partners numbers : List ℕ) (first : ℕ) : Type 0 where
+  pub different : AreDifferent numbers
+  pub within : first ≤ length numbers
+  pub few : length numbers ≤ length partners
+  pub front : (x : ℕ) → Contains (take first numbers) x ↔ (Contains partners x × Contains done x)
+  pub rest : (x : ℕ) → Contains (drop first numbers) x ↔ (Contains partners x × (¬ (x ≡ item)) × (¬ Contains done x))
+
+-- what some numbers beside an item come to: as IsSettled, where a largest set counts from three numbers on
+pub record IsSettledAround (Fits : List ℕ → Type 0) (item : ℕ) (others : List ℕ) (first : ℕ) (numbers : List ℕ) (end : ℕ) (before after : List (List ℕ)) : Type 0 where
+  pub largest : List ℕ
+  pub is_largest : IsLargest Fits (item ∷ []) (drop first others) largest
+  pub parted : AreParted (take first others) (drop first others) largest numbers end
+  pub closed : Bool
+  pub alone : IsTrue closed ↔ (3 ≤ length largest × ((x : ℕ) → Contains (take first others) x → ¬ FitTogether Fits (x ∷ largest)))
+  pub added : after ≡ cond closed (before ++ largest ∷ []) before

@@ -48,14 +48,31 @@ fn largest_with<F: Family>(
     ensures tests { Rises (length rest.now + 1) tally.old.tests tally.new.tests }
 {
     let grown = united(alloc, set, [first].as_slice())?;
-    if rest.len() < 2 {
-        return enlarged(alloc, family, grown, rest, tally);
+    largest_beside(alloc, family, grown, rest, tally)
+}
+
+/// A largest fitting set of a fitting set and some candidates, of which none is known to fit together
+/// with it. Where all of them do, one test tells it.
+pub fn largest_beside<F: Family>(
+    alloc: Global,
+    family: &F,
+    set: Vec<u32>,
+    candidates: &[u32],
+    tally: &mut Tally,
+) -> Result<Vec<u32>, NoMemory>
+    requires { F.Fits family.now set.items }
+    ensures largest { IfOk result (λ largest.
+        IsLargest (F.Fits family.now) set.items candidates.now largest.items) }
+    ensures tests { Rises (length candidates.now + 1) tally.old.tests tally.new.tests }
+{
+    if candidates.len() < 2 {
+        return enlarged(alloc, family, set, candidates, tally);
     }
-    let whole = united(alloc, grown.as_slice(), rest)?;
+    let whole = united(alloc, set.as_slice(), candidates)?;
     if family.fits(whole.as_slice(), tally)? {
         return Ok(whole);
     }
-    enlarged(alloc, family, grown, rest, tally)
+    enlarged(alloc, family, set, candidates, tally)
 }
 
 /// A fitting set with each candidate, in turn, that still fits together with it.

@@ -2,10 +2,12 @@
 //! every part of a fitting set fits.
 #![tactic(auto)]
 
+pub use among::closed_sets_among;
 pub use around::closed_sets_with;
 pub use family::Family;
 pub use laws::closed_by_numbers;
 
+mod among;
 mod around;
 mod candidates;
 mod family;

@@ -2,10 +2,11 @@
 //! fitting set of them is put together greedily; every other closed set holds a number outside it,
 //! so only these numbers are branched over, and one that is done is excluded from the branches to come.
 
-ghost use Rattle.std.specs.Prelude.{ℕ, ◌≡◌, ◌*◌, ◌<◌, ◌≤◌, take, get_or, map, length, IfOk, OnOk};
+ghost use Rattle.std.specs.Prelude.{ℕ, ◌≡◌, ◌<◌, ◌≤◌, ◌↔◌, [], ◌∷◌, take, get_or, map, length, IfOk, IsTrue, OnOk};
 ghost use Rattle.std.specs.List.{Contains};
+ghost use Rattle.closed_sets.specs.Around.{FitTogether};
 ghost use Rattle.closed_sets.specs.Counting.{IsPaid, Rises};
-ghost use Rattle.closed_sets.specs.Search.{AreOthers, AreParted, Gains, IsBranch, IsClosedFrom, IsGrown, IsNarrowed, IsNode};
+ghost use Rattle.closed_sets.specs.Search.{AreOthers, AreParted, Gains, IsBranch, IsClosedFrom, IsGrown, IsNode, IsSettled};
 
 use crate::candidates::{fits_with_none, fitting, largest_of};
 use crate::family::Family;
@@ -44,10 +45,10 @@ pub fn explore<F: Family>(
     ensures gains { OnOk result (Gains (IsClosedFrom (F.Fits family.now) node.now.set.items
         (take node.now.others.first node.now.others.numbers.items))
         (map (λ set. set.items) found.old.items) (map (λ set. set.items) found.new.items)) }
-    ensures tests { (size : ℕ) → length node.now.others.numbers.items ≤ size →
+    ensures paid { (size : ℕ) → length node.now.others.numbers.items ≤ size →
         IsPaid (IsGrown (F.Fits family.now) node.now.set.items
         (take node.now.others.first node.now.others.numbers.items))
-        (2 * size) size tally.old.tests tally.new.tests }
+        size 0 tally.old.tests tally.new.tests }
 {
     let rest = settle(alloc, family, node, found, tally)?;
     let mut place = rest.first;
@@ -66,37 +67,69 @@ pub fn explore<F: Family>(
     Ok(())
 }
 
-/// Excludes a node's candidates outside a largest set too, and adds the closed set that is left: the
-/// largest one, where it is closed.
-fn settle<F: Family>(
+/// Excludes a node's candidates outside a largest set too, and adds that set where it is closed.
+/// Where there are no candidates, no test is made.
+pub fn settle<F: Family>(
     alloc: Global,
     family: &F,
     node: &Node,
     found: &mut Vec<Vec<u32>>,
     tally: &mut Tally,
 ) -> Result<Others, NoMemory>
-    requires { IsNode (F.Fits family.now) node.now.set.items node.now.others.numbers.items
-        node.now.others.first }
-    ensures rest { IfOk result (λ rest. IsNarrowed (F.Fits family.now) node.now.set.items
-        node.now.others.numbers.items node.now.others.first rest.numbers.items rest.first) }
-    ensures gains { IfOk result (λ rest. Gains (IsClosedFrom (F.Fits family.now)
-        node.now.set.items (take rest.first rest.numbers.items))
+    requires fits { F.Fits family.now node.now.set.items }
+    requires others { (x : ℕ) → Contains node.now.others.numbers.items x →
+        FitTogether (F.Fits family.now) (x ∷ node.now.set.items) }
+    requires within { node.now.others.first ≤ length node.now.others.numbers.items }
+    ensures settled { IfOk result (λ rest. IsSettled (F.Fits family.now) node.now.set.items
+        node.now.others.numbers.items node.now.others.first rest.numbers.items rest.first
         (map (λ set. set.items) found.old.items) (map (λ set. set.items) found.new.items)) }
     ensures tests { Rises (length node.now.others.numbers.items)
         tally.old.tests tally.new.tests }
+    ensures none { length node.now.others.numbers.items ≤ node.now.others.first →
+        tally.new.tests ≡ tally.old.tests }
 {
     let numbers = node.others.numbers.as_slice();
     let excluded = &numbers[..node.others.first];
     let candidates = &numbers[node.others.first..];
     let largest = largest_of(alloc, family, node.set.as_slice(), candidates, tally)?;
-    let closed = fits_with_none(alloc, family, largest.as_slice(), excluded, tally)?;
+    let closed = stands_alone(
+        alloc,
+        family,
+        largest.as_slice(),
+        excluded,
+        candidates,
+        tally,
+    )?;
     let rest = parted(alloc, excluded, candidates, largest.as_slice())?;
     push_set_where(found, largest, closed)?;
     Ok(rest)
 }
 
+/// Whether no excluded number fits together with a largest set. Where there are no candidates, all
+/// excluded numbers do.
+fn stands_alone<F: Family>(
+    alloc: Global,
+    family: &F,
+    largest: &[u32],
+    excluded: &[u32],
+    candidates: &[u32],
+    tally: &mut Tally,
+) -> Result<bool, NoMemory>
+    requires { candidates.now ≡ [] → (x : ℕ) → Contains excluded.now x →
+        FitTogether (F.Fits family.now) (x ∷ largest.now) }
+    ensures alone { IfOk result (λ alone. IsTrue alone ↔ ((x : ℕ) → Contains excluded.now x →
+        ¬ FitTogether (F.Fits family.now) (x ∷ largest.now))) }
+    ensures tests { Rises (length excluded.now) tally.old.tests tally.new.tests }
+    ensures none { candidates.now ≡ [] → tally.new.tests ≡ tally.old.tests }
+{
+    if candidates.is_empty() {
+        return Ok(excluded.is_empty());
+    }
+    fits_with_none(alloc, family, largest, excluded, tally)
+}
+
 /// Numbers with those candidates excluded too that are not in a set.
-fn parted(
+pub fn parted(
     alloc: Global,
     excluded: &[u32],
     candidates: &[u32],

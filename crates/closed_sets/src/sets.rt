@@ -6,7 +6,7 @@ ghost use Rattle.std.specs.List.{Contains};
 ghost use Rattle.std.specs.List.Sorted.{IsStrictlySortedBy};
 ghost use Rattle.std.specs.Ordering.{nat_cmp};
 ghost use Rattle.closed_sets.specs.Families.{IsSet};
-ghost use Rattle.closed_sets.specs.Search.{IsUnion};
+ghost use Rattle.closed_sets.specs.Search.{IsUnion, is_one};
 
 use sky_units::NoMemory;
 use std::alloc::Global;
@@ -48,6 +48,14 @@ pub fn has(list: &[u32], number: u32) -> bool
     ensures { IsTrue result ↔ Contains list.now number }
 {
     list.contains(&number)
+}
+
+/// Whether a number is in a set.
+pub fn has_rising(set: &[u32], number: u32) -> bool
+    requires { IsSet set.now }
+    ensures { result ≡ is_one set.now number }
+{
+    set.binary_search(&number).is_ok()
 }
 
 /// Adds a number where it is wanted.

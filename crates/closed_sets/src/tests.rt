@@ -7,52 +7,114 @@ ghost use Rattle.closed_sets.specs.Around.{AreFittingPairs, IsFittingPair};
 ghost use Rattle.closed_sets.specs.Objects.{IsOfOne, IsSeen, seen_is_hereditary};
 
 use crate::sets::{has, set_of};
-use crate::{Family, closed_by_numbers, closed_sets_with};
+use crate::{Family, closed_by_numbers, closed_sets_among, closed_sets_with};
 use sky_units::{NoMemory, Tally};
 use std::alloc::Global;
 
 #[test]
 fn sets_of_one_object(rt: HostRuntime) -> Result<(), NoMemory> {
     let nothing = [[4, 5].as_slice(), [0, 5].as_slice()];
-    let text = closed_text(rt.alloc(), nothing.as_slice(), 5)?;
+    let text = closed_text(rt.alloc(), nothing.as_slice(), 5, &[])?;
     assert_eq!(rt; text.as_str(), "[] 0");
     let one_pair = [[1, 4, 8].as_slice()];
-    let text = closed_text(rt.alloc(), one_pair.as_slice(), 4)?;
-    assert_eq!(rt; text.as_str(), "[[1, 4, 8]] 0");
+    let text = closed_text(rt.alloc(), one_pair.as_slice(), 4, &[])?;
+    assert_eq!(rt; text.as_str(), "[[1, 4, 8]] 1");
     let clean = [[0, 1, 3, 4, 7, 9].as_slice()];
-    let text = closed_text(rt.alloc(), clean.as_slice(), 3)?;
-    assert_eq!(rt; text.as_str(), "[[0, 1, 3, 4, 7, 9]] 6");
+    let text = closed_text(rt.alloc(), clean.as_slice(), 3, &[])?;
+    assert_eq!(rt; text.as_str(), "[[0, 1, 3, 4, 7, 9]] 1");
+    let text = closed_text(rt.alloc(), clean.as_slice(), 3, [1].as_slice())?;
+    assert_eq!(rt; text.as_str(), "[] 2");
     Ok(())
 }
 
 #[test]
 fn sets_of_several_objects(rt: HostRuntime) -> Result<(), NoMemory> {
     let stranger = [[0, 1, 2, 3, 4].as_slice(), [2, 3, 6].as_slice()];
-    let text = closed_text(rt.alloc(), stranger.as_slice(), 3)?;
-    assert_eq!(rt; text.as_str(), "[[0, 1, 2, 3, 4], [2, 3, 6]] 8");
+    let text = closed_text(rt.alloc(), stranger.as_slice(), 3, &[])?;
+    assert_eq!(rt; text.as_str(), "[[0, 1, 2, 3, 4], [2, 3, 6]] 5");
+    let text = closed_text(rt.alloc(), stranger.as_slice(), 3, [1, 5].as_slice())?;
+    assert_eq!(rt; text.as_str(), "[[2, 3, 6]] 5");
     let shared = [
         [1, 2, 5, 6].as_slice(),
         [2, 3, 5, 7].as_slice(),
         [2, 5].as_slice(),
         [0, 1, 9].as_slice(),
     ];
-    let text = closed_text(rt.alloc(), shared.as_slice(), 5)?;
-    assert_eq!(rt; text.as_str(), "[[1, 2, 5, 6], [2, 3, 5, 7]] 10");
+    let text = closed_text(rt.alloc(), shared.as_slice(), 5, &[])?;
+    assert_eq!(rt; text.as_str(), "[[1, 2, 5, 6], [2, 3, 5, 7]] 7");
+    let text = closed_text(rt.alloc(), shared.as_slice(), 5, [5].as_slice())?;
+    assert_eq!(rt; text.as_str(), "[] 0");
     Ok(())
 }
 
-/// The closed sets with an item, and the number of tests.
-fn closed_text(alloc: Global, rows: &[&[u32]], item: u32) -> Result<String, NoMemory> {
+#[test]
+fn sets_among_all_numbers(rt: HostRuntime) -> Result<(), NoMemory> {
+    let stranger = [[0, 1, 2, 3, 4].as_slice(), [2, 3, 6].as_slice()];
+    let text = among_text(rt.alloc(), stranger.as_slice(), 3, &[])?;
+    assert_eq!(rt; text.as_str(), "[[0, 1, 2, 3, 4], [2, 3, 6]] 42");
+    let text = among_text(rt.alloc(), stranger.as_slice(), 3, [1, 5].as_slice())?;
+    assert_eq!(rt; text.as_str(), "[[2, 3, 6]] 30");
+    Ok(())
+}
+
+/// The closed sets with an item and without done numbers, and the number of tests.
+fn closed_text(
+    alloc: Global,
+    rows: &[&[u32]],
+    item: u32,
+    done: &[u32],
+) -> Result<String, NoMemory> {
+    let family = objects_of(alloc, rows)?;
+    closed_by_numbers(&family);
+    let mut tally = Tally::zero();
+    let pairs = pairs_around(alloc, &family, item)?;
+    let done = set_of(done.to_vec(alloc)?);
+    let sets = closed_sets_with(
+        alloc,
+        &family,
+        item,
+        done.as_slice(),
+        pairs.as_slice(),
+        &mut tally,
+    )?;
+    format!(in alloc; "{sets:?} {}", tally.tests)
+}
+
+/// The same among all numbers below ten.
+fn among_text(alloc: Global, rows: &[&[u32]], item: u32, done: &[u32]) -> Result<String, NoMemory> {
+    let family = objects_of(alloc, rows)?;
+    let mut tally = Tally::zero();
+    let partners = numbers_below_ten(alloc)?;
+    let done = set_of(done.to_vec(alloc)?);
+    let sets = closed_sets_among(
+        alloc,
+        &family,
+        item,
+        done.as_slice(),
+        partners.as_slice(),
+        &mut tally,
+    )?;
+    format!(in alloc; "{sets:?} {}", tally.tests)
+}
+
+/// The numbers below ten.
+fn numbers_below_ten(alloc: Global) -> Result<Vec<u32>, NoMemory>
+    ensures { IfOk result (λ numbers. (x : ℕ) → x < 10 → Contains numbers.items x) }
+{
+    let mut numbers = Vec::new(alloc);
+    for number in 0..10 {
+        numbers.push(number)?;
+    }
+    Ok(numbers)
+}
+
+/// The family of some objects.
+fn objects_of(alloc: Global, rows: &[&[u32]]) -> Result<Objects, NoMemory> {
     let mut objects = Vec::new(alloc);
     for row in rows {
         objects.push(row.to_vec(alloc)?)?;
     }
-    let family = Objects { objects };
-    closed_by_numbers(&family);
-    let mut tally = Tally::zero();
-    let pairs = pairs_around(alloc, &family, item)?;
-    let sets = closed_sets_with(alloc, &family, item, pairs.as_slice(), &mut tally)?;
-    format!(in alloc; "{sets:?} {}", tally.tests)
+    Ok(Objects { objects })
 }
 
 /// Sets of numbers below ten fit where one object has all of them.

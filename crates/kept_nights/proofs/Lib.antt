@@ -1,3 +1,4 @@
+pub mod DifferentTracklets
 pub mod HeldNights
 pub mod KeptNights
 pub mod OneEpoch

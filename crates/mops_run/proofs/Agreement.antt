@@ -16,8 +16,8 @@ use Rattle.mops_run.specs.Deliveries.{IsAccepted, IsRefused, DeliversOne, Delive
 use Rattle.mops_run.specs.declared.lines.Said.{Said}
 use Rattle.mops_run.specs.declared.lines.Said.TheVariants.{Nothing, Waits, Refused, Asks, Malformed}
 use Rattle.mops_run.specs.declared.lines.Command.{Command}
-use Rattle.mops_run.specs.declared.lines.Command.TheVariants.{Set, Window, Tracklets, Report as report_command, Stats as stats_command}
-use Rattle.mops_run.specs.Commands.{Obeys, Refuses}
+use Rattle.mops_run.specs.declared.lines.Command.TheVariants.{Set, Window, Tracklets, Report as report_command, Ask, Stats as stats_command}
+use Rattle.mops_run.specs.Commands.{Obeys, Refuses, asked_reply}
 use Rattle.mops_run.specs.Lines.{said_by}
 use Rattle.mops_run.specs.Replies.{Replies, RepliesLast}
 use Rattle.mops_run.specs.Watch.{Answers, AnswersAll}
@@ -33,6 +33,7 @@ use Rattle.mops_run.proofs.LeastNights.{least_night_is_unique}
 use Rattle.exposure_log.proofs.Delivering.{exposures_are_unique}
 use Rattle.exposure_log.proofs.LeastNumbers.{add_is_unique}
 use Rattle.window_incr.proofs.Agreement.{report_is_unique, stats_are_unique}
+use Rattle.window_incr.proofs.AskedOnce.{asked_once}
 
 -- two linkers of the same settings and log are the same
 same_linker : (one other : LinkerState) → one.settings ≡ other.settings → one.log ≡ other.log → one ≡ other
@@ -87,6 +88,7 @@ Obeys-only (Set name value) = λ old p q s t a b. set_only old name value (after
 Obeys-only (Window lo hi) = λ old p q s t a b. window_only old lo hi (window_refusal old.log.window lo hi) p q s t a b
 Obeys-only (Tracklets night) = λ old p q s t a b. (a.1 ∙ sym b.1, a.0 ∙ sym b.0)
 Obeys-only report_command = λ old p q s t a b. (a.3 ∙ ap (λ r. replies.Report r) (report_is_unique old a.1 b.1 a.2 b.2) ∙ sym b.3, a.0 ∙ sym b.0)
+Obeys-only (Ask ids) = λ old p q s t a b. (a.3 ∙ ap (asked_reply ids) (asked_once old ids a.1 b.1 a.2 b.2) ∙ sym b.3, a.0 ∙ sym b.0)
 Obeys-only stats_command = λ old p q s t a b. (a.3 ∙ ap (λ r. replies.Stats r) (stats_are_unique old a.1 b.1 a.2 b.2) ∙ sym b.3, a.0 ∙ sym b.0)
 
 Refuses-only : (n : ℕ) (error : ScriptError) → IsOnly (Refuses n error)

@@ -18,7 +18,7 @@ use Rattle.exposure_log.proofs.Delivering.{exposures_exist}
 use Rattle.exposure_log.proofs.LeastNumbers.{add_exists}
 use Rattle.window_incr.specs.Answers.{tracklet_ids}
 use Rattle.window_incr.specs.LinkerState.{LinkerState, under, under_changed}
-use Rattle.window_incr.specs.Laws.{ReportExists, StatsExist}
+use Rattle.window_incr.specs.Laws.{AskedExists, ReportExists, StatsExist}
 use Rattle.window_incr.specs.Soundness.{IsSoundState}
 use Rattle.exposure_log.proofs.Keeping.{nothing_held, shifting_keeps_order, taking_keeps_order, moving_keeps_order}
 use Rattle.track_report.specs.declared.replies.Reply.{Reply}
@@ -28,8 +28,8 @@ use Rattle.mops_run.specs.Deliveries.{named_id, IsAccepted, IsRefused, DeliversO
 use Rattle.mops_run.specs.declared.lines.Said.{Said}
 use Rattle.mops_run.specs.declared.lines.Said.TheVariants.{Nothing, Waits, Refused, Asks, Malformed}
 use Rattle.mops_run.specs.declared.lines.Command.{Command}
-use Rattle.mops_run.specs.declared.lines.Command.TheVariants.{Set, Window, Tracklets, Report as report_command, Stats as stats_command}
-use Rattle.mops_run.specs.Commands.{Obeys, Refuses}
+use Rattle.mops_run.specs.declared.lines.Command.TheVariants.{Set, Window, Tracklets, Report as report_command, Ask, Stats as stats_command}
+use Rattle.mops_run.specs.Commands.{Obeys, Refuses, asked_reply}
 use Rattle.mops_run.specs.Lines.{said_by}
 use Rattle.mops_run.specs.Replies.{RepliesLast}
 use Rattle.script_text.specs.declared.errors.ScriptError.TheVariants as causes
@@ -146,15 +146,24 @@ moved_to old lo hi s None passed = record {
 }
 moved_to old lo hi s (Some error) refused = record { given = replies.WindowRefused error; new = old; leads = (refl, refl); proper = s }
 
-obeyed : ReportExists → StatsExist → (command : Command) (old : LinkerState) → IsProper old → Leads Reply (Obeys command old)
-obeyed reports stats (Set name value) old s = set_to old name value s (set_named name value old.settings) (set_in_range name value old.settings s.settings)
-obeyed reports stats (Window lo hi) old s = moved_to old lo hi s (window_refusal old.log.window lo hi) refl
-obeyed reports stats (Tracklets night) old s = record { given = replies.Tracklets night (tracklet_ids old night); new = old; leads = (refl, refl); proper = s }
-obeyed reports stats report_command old s =
-    let found = reports old s.state s.settings in
+-- what each sound state has
+pub record HaveAnswers : Type 0 where
+  pub report : ReportExists
+  pub stats : StatsExist
+  pub asked : AskedExists
+
+obeyed : HaveAnswers → (command : Command) (old : LinkerState) → IsProper old → Leads Reply (Obeys command old)
+obeyed have (Set name value) old s = set_to old name value s (set_named name value old.settings) (set_in_range name value old.settings s.settings)
+obeyed have (Window lo hi) old s = moved_to old lo hi s (window_refusal old.log.window lo hi) refl
+obeyed have (Tracklets night) old s = record { given = replies.Tracklets night (tracklet_ids old night); new = old; leads = (refl, refl); proper = s }
+obeyed have report_command old s =
+    let found = have.report old s.state s.settings in
     record { given = replies.Report found.0; new = old; leads = (refl, found.0, found.1, refl); proper = s }
-obeyed reports stats stats_command old s =
-    let found = stats old s.state in
+obeyed have (Ask ids) old s =
+    let found = have.asked old ids s.state s.settings in
+    record { given = asked_reply ids found.0; new = old; leads = (refl, found.0, found.1, refl); proper = s }
+obeyed have stats_command old s =
+    let found = have.stats old s.state in
     record { given = replies.Stats found.0; new = old; leads = (refl, found.0, found.1, refl); proper = s }
 
 refused : (n : ℕ) (error : ScriptError) (old : LinkerState) → IsProper old → Leads Reply (Refuses n error old)
@@ -189,14 +198,14 @@ turns_last Own owned old waiting ids s =
       proper = own.proper;
     }
 
-script_turns : ReportExists → StatsExist → (n : ℕ) (old : LinkerState) (waiting : List Observation) (said : Said) → HasIdRule said → All HasId waiting → IsProper old → Turns Script n old waiting said
-script_turns reports stats n old waiting Nothing rule ids s = record { given = []; new = old; still = waiting; ids = ids; turns = (refl, refl); proper = s }
-script_turns reports stats n old waiting (Waits d) rule ids s = record { given = []; new = old; still = waiting ++ d ∷ []; ids = All-append HasId waiting (d ∷ []) ids (All-cons HasId d [] rule (All-nil HasId)); turns = (refl, refl); proper = s }
-script_turns reports stats n old waiting (Refused error) rule ids s = record { given = replies.Line n error ∷ []; new = old; still = waiting; ids = ids; turns = (refl, refl); proper = s }
-script_turns reports stats n old waiting (Asks command) rule ids s =
-    let last : TurnsLast (Obeys command) old waiting = turns_last (Obeys command) (obeyed reports stats command) old waiting ids s in
+script_turns : HaveAnswers → (n : ℕ) (old : LinkerState) (waiting : List Observation) (said : Said) → HasIdRule said → All HasId waiting → IsProper old → Turns Script n old waiting said
+script_turns have n old waiting Nothing rule ids s = record { given = []; new = old; still = waiting; ids = ids; turns = (refl, refl); proper = s }
+script_turns have n old waiting (Waits d) rule ids s = record { given = []; new = old; still = waiting ++ d ∷ []; ids = All-append HasId waiting (d ∷ []) ids (All-cons HasId d [] rule (All-nil HasId)); turns = (refl, refl); proper = s }
+script_turns have n old waiting (Refused error) rule ids s = record { given = replies.Line n error ∷ []; new = old; still = waiting; ids = ids; turns = (refl, refl); proper = s }
+script_turns have n old waiting (Asks command) rule ids s =
+    let last : TurnsLast (Obeys command) old waiting = turns_last (Obeys command) (obeyed have command) old waiting ids s in
     record { given = last.given; new = last.new; still = []; ids = All-nil HasId; turns = last.turns; proper = last.proper }
-script_turns reports stats n old waiting (Malformed error) rule ids s =
+script_turns have n old waiting (Malformed error) rule ids s =
     let last : TurnsLast (Refuses n error) old waiting = turns_last (Refuses n error) (refused n error) old waiting ids s in
     record { given = last.given; new = last.new; still = []; ids = All-nil HasId; turns = last.turns; proper = last.proper }
 
@@ -208,9 +217,9 @@ plain_turns n old waiting (Refused error) rule ids s = record { given = replies.
 plain_turns n old waiting (Asks command) rule ids s = record { given = replies.Script n causes.Command ∷ []; new = old; still = waiting; ids = ids; turns = (refl, refl); proper = s }
 plain_turns n old waiting (Malformed error) rule ids s = record { given = replies.Script n causes.Command ∷ []; new = old; still = waiting; ids = ids; turns = (refl, refl); proper = s }
 
-line_turns : ReportExists → StatsExist → (kind : Input) (n : ℕ) (old : LinkerState) (waiting : List Observation) (said : Said) → HasIdRule said → All HasId waiting → IsProper old → Turns kind n old waiting said
-line_turns reports stats Script n old waiting said rule ids s = script_turns reports stats n old waiting said rule ids s
-line_turns reports stats Plain n old waiting said rule ids s = plain_turns n old waiting said rule ids s
+line_turns : HaveAnswers → (kind : Input) (n : ℕ) (old : LinkerState) (waiting : List Observation) (said : Said) → HasIdRule said → All HasId waiting → IsProper old → Turns kind n old waiting said
+line_turns have Script n old waiting said rule ids s = script_turns have n old waiting said rule ids s
+line_turns have Plain n old waiting said rule ids s = plain_turns n old waiting said rule ids s
 
 -- the replies to some lines, and what they lead to
 record Runs (kind : Input) (n : ℕ) (old : LinkerState) (waiting : List Observation) (input : List (List ℕ)) : Type 0 where
@@ -221,11 +230,11 @@ record Runs (kind : Input) (n : ℕ) (old : LinkerState) (waiting : List Observa
   ids : All HasId still
   proper : IsProper new
 
-lines_run : ReportExists → StatsExist → (kind : Input) (n : ℕ) (old : LinkerState) (waiting : List Observation) (input : List (List ℕ)) → All HasId waiting → IsProper old → Runs kind n old waiting input
-lines_run reports stats kind n old waiting [] ids s = record { given = []; new = old; still = waiting; ids = ids; runs = (refl, refl); proper = s }
-lines_run reports stats kind n old waiting (line ∷ more) ids s =
-    let now : Turns kind n old waiting (said_by line) = line_turns reports stats kind n old waiting (said_by line) (line_ids line) ids s in
-    let later : Runs kind (n + 1) now.new now.still more = lines_run reports stats kind (n + 1) now.new now.still more now.ids now.proper in
+lines_run : HaveAnswers → (kind : Input) (n : ℕ) (old : LinkerState) (waiting : List Observation) (input : List (List ℕ)) → All HasId waiting → IsProper old → Runs kind n old waiting input
+lines_run have kind n old waiting [] ids s = record { given = []; new = old; still = waiting; ids = ids; runs = (refl, refl); proper = s }
+lines_run have kind n old waiting (line ∷ more) ids s =
+    let now : Turns kind n old waiting (said_by line) = line_turns have kind n old waiting (said_by line) (line_ids line) ids s in
+    let later : Runs kind (n + 1) now.new now.still more = lines_run have kind (n + 1) now.new now.still more now.ids now.proper in
     record {
       given = now.given ++ later.given;
       new = later.new;
@@ -264,13 +273,13 @@ linked old (d ∷ ds) ids s =
     let some : Leads (List Reply) (LinksSome old (d ∷ ds)) = linked_some old d ds ids s in
     record { given = some.given; new = some.new; leads = some.leads; proper = some.proper }
 
-input_ends : ReportExists → StatsExist → (kind : Input) (old : LinkerState) (waiting : List Observation) → All HasId waiting → IsProper old → Leads (List Reply) (EndsIn kind (state_of old waiting))
-input_ends reports stats Script old waiting ids s =
+input_ends : HaveAnswers → (kind : Input) (old : LinkerState) (waiting : List Observation) → All HasId waiting → IsProper old → Leads (List Reply) (EndsIn kind (state_of old waiting))
+input_ends have Script old waiting ids s =
     let last : Leads (List Reply) (Delivers old waiting) = delivered old waiting ids s in
     record { given = last.given; new = last.new; leads = last.leads; proper = last.proper }
-input_ends reports stats Plain old waiting ids s =
+input_ends have Plain old waiting ids s =
     let links : Leads (List Reply) (Links old waiting) = linked old waiting ids s in
-    let own : Leads Reply (Obeys report_command links.new) = obeyed reports stats report_command links.new links.proper in
+    let own : Leads Reply (Obeys report_command links.new) = obeyed have report_command links.new links.proper in
     record {
       given = links.given ++ own.given ∷ [];
       new = own.new;
@@ -281,10 +290,10 @@ input_ends reports stats Plain old waiting ids s =
 at_the_start : IsProper start.linker
 at_the_start = record { state = record { shift = refl; orderly = nothing_held standard_settings.night_shift }; settings = search rules }
 
-pub all_answers : ReportExists → StatsExist → (kind : Input) (input : List (List ℕ)) → (given : List Reply) × AnswersAll kind input given
-all_answers reports stats kind input =
-    let so_far : Runs kind 1 start.linker [] input = lines_run reports stats kind 1 start.linker [] input (All-nil HasId) at_the_start in
-    let last : Leads (List Reply) (EndsIn kind (state_of so_far.new so_far.still)) = input_ends reports stats kind so_far.new so_far.still so_far.ids so_far.proper in (
+pub all_answers : HaveAnswers → (kind : Input) (input : List (List ℕ)) → (given : List Reply) × AnswersAll kind input given
+all_answers have kind input =
+    let so_far : Runs kind 1 start.linker [] input = lines_run have kind 1 start.linker [] input (All-nil HasId) at_the_start in
+    let last : Leads (List Reply) (EndsIn kind (state_of so_far.new so_far.still)) = input_ends have kind so_far.new so_far.still so_far.ids so_far.proper in (
       so_far.given ++ last.given,
       record {
         so_far = so_far.given;

@@ -1,21 +1,24 @@
--- What a line says keeps to its rules: the numbers of a command are below 10^18, as they have at most eighteen digits, and the id of
+-- What a line says keeps to its rules: the numbers of a command are below 10^18, as they have at most eighteen digits, asked ids are few, and the id of
 -- a detection keeps the rule of ids.
 use Rattle.std.proofs.Common.{◌≡◌, ℕ, ◌<◌, ◌≤◌, ◌^◌, ℤ, List, [], ◌∷◌, length, refl, arith, Bool, true, false, cond}
 use Rattle.std.specs.Prelude.{neg_ℤ, ◌<ℤ◌, pos, IsTrue, Option, Some, None, Result, Ok, Err, ◌&&◌, nat_lt, nat_le, bytes_eq, codes, not, ◌==◌, slice_index}
-use Rattle.std.specs.List.{list_all}
+use Rattle.std.specs.List.{list_all, slice_split}
 use Rattle.std.specs.Char.{is_ascii_digit}
 use Rattle.std.specs.Str.Parse.{digits_value, starts_with_minus}
 use Rattle.std.proofs.lemmas.Int.{ints}
 use Rattle.std.proofs.Math.Nat.{pow-le-pow_right}
 use Rattle.std.proofs.lemmas.Bool.Decides.{nat_tests}
+use Rattle.std.proofs.lemmas.List.Filters.{length-filter_both}
+use Rattle.std.proofs.lemmas.List.Splits.{length-slice_split}
+use Rattle.std.proofs.lemmas.List.Sums.{count_by-le-length}
 use Rattle.miti_text.specs.Numerals.{number_of, signed, with_sign, without_minus}
 use Rattle.miti_text.specs.Observation.{Observation, is_id, is_site, is_name}
-use Rattle.miti_text.specs.Words.{is_blank, words}
+use Rattle.miti_text.specs.Words.{is_blank, is_filled, words}
 use Rattle.miti_text.specs.Lines.{is_text, fields_of, observation_of, detection_of, check as check_rule, or_error as or_line_error, ◌>>=◌ as ◌>>>=◌}
 use Rattle.miti_text.specs.declared.errors.LineError.{LineError}
 use Rattle.miti_text.specs.declared.errors.LineError.TheVariants.{Id, Epoch, Ra, Dec, Mag, Site, Name, Long, Byte}
 use Rattle.miti_text.proofs.DigitTexts.{value_below}
-use Rattle.script_text.specs.Commands.{command_of, alone, one_of, two_of, or_error, ◌>>=◌}
+use Rattle.script_text.specs.Commands.{command_of, ask_of, alone, one_of, two_of, or_error, ◌>>=◌}
 use Rattle.script_text.specs.Script.{script_line_of, detection_line}
 use Rattle.script_text.specs.declared.lines.Line.{Line}
 use Rattle.script_text.specs.declared.lines.Line.TheVariants as lines
@@ -63,6 +66,10 @@ number_small : (text : List ℕ) → IsSmallNumber (number_of text)
 unfolding number_of
 number_small text = size_small (starts_with_minus text) (without_minus text) (nat_lt 0 (length (without_minus text)) && (nat_le (length (without_minus text)) 18 && list_all is_ascii_digit (without_minus text))) refl
 
+either_known : (b : Bool) (x y : Result Line ScriptError) → HasSmallWindow x → (b ≡ false → HasSmallWindow y) → HasSmallWindow (cond b x y)
+either_known true x y h k = h
+either_known false x y h k = k refl
+
 either : (b : Bool) (x y : Result Line ScriptError) → HasSmallWindow x → HasSmallWindow y → HasSmallWindow (cond b x y)
 either true x y h k = h
 either false x y h k = k
@@ -92,19 +99,34 @@ tracklets_small (Some w) = night (number_of w)
     night None = tt
     night (Some z) = tt
 
+ask_small : (ws : List (List ℕ)) → length ws < 2 ^ 32 → HasSmallWindow (ask_of ws)
+ask_small [] h = tt
+ask_small (id ∷ ids) h = h
+
 alone_small : (ws : List (List ℕ)) → HasSmallWindow (alone lines.Report ws) × HasSmallWindow (alone lines.Stats ws)
 alone_small [] = (tt, tt)
 alone_small (w ∷ ws) = (tt, tt)
 
-command_small : (ws : List (List ℕ)) → HasSmallWindow (command_of ws)
+command_small : (ws : List (List ℕ)) → length ws < 2 ^ 32 → HasSmallWindow (command_of ws)
 unfolding command_of
-command_small [] = tt
-command_small (name ∷ ws) =
+command_small [] h = tt
+command_small (name ∷ ws) h =
     either (bytes_eq name (codes "!set")) _ _ (set_small (two_of ws)) (
     either (bytes_eq name (codes "!window")) _ _ (window_small (two_of ws)) (
     either (bytes_eq name (codes "!tracklets")) _ _ (tracklets_small (one_of ws)) (
     either (bytes_eq name (codes "!report")) _ _ (alone_small ws).0 (
-    either (bytes_eq name (codes "!stats")) _ _ (alone_small ws).1 tt))))
+    either (bytes_eq name (codes "!ask")) _ _ (ask_small ws (omega (arith, h))) (
+    either (bytes_eq name (codes "!stats")) _ _ (alone_small ws).1 tt)))))
+
+-- a line that isn't too long has few words
+few_words : (line : List ℕ) → nat_lt 1024 (length line) ≡ false → length (words line) < 2 ^ 32
+unfolding words
+few_words line short =
+    let within : length line ≤ 1024 = grind (arith, nat_tests) in
+    let parts = length-slice_split is_blank line in
+    let kept = length-filter_both is_filled (λ w. not (is_filled w)) (λ w. refl) (slice_split is_blank line) in
+    let blanks = count_by-le-length is_blank line in
+    omega (arith, within, parts, kept, blanks)
 
 -- ---- the id of a detection line
 abbrev OfRule : Result Observation LineError → Type 0
@@ -147,10 +169,10 @@ line_small : (line : List ℕ) → HasSmallWindow (script_line_of line)
 unfolding script_line_of
 line_small line =
     either (slice_index line 0 == 35) _ _ tt (
-    either (nat_lt 1024 (length line)) _ _ tt (
+    either_known (nat_lt 1024 (length line)) _ _ tt (λ short.
     either (list_all is_blank line) _ _ tt (
     either (not (list_all is_text line)) _ _ tt (
-    either (slice_index line 0 == 33) _ _ (command_small (words line)) (detection_small (detection_of line) (detection_keeps line))))))
+    either (slice_index line 0 == 33) _ _ (command_small (words line) (few_words line short)) (detection_small (detection_of line) (detection_keeps line))))))
 
 near : (said : Said) → KeepsRules said → IsNearLine said
 near (Asks command) h = h

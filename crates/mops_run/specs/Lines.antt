@@ -1,5 +1,5 @@
 -- What a line of the input is to the program.
-use Rattle.std.specs.Prelude.{ℕ, List, Result, Ok, Err}
+use Rattle.std.specs.Prelude.{ℕ, ◌<◌, ◌^◌, List, length, Result, Ok, Err}
 use Rattle.script_text.specs.Script.{script_line_of}
 use Rattle.script_text.specs.declared.lines.Line.{Line}
 use Rattle.script_text.specs.declared.lines.Line.TheVariants as lines
@@ -19,6 +19,7 @@ said_of (Ok (lines.Set name value)) = Asks (commands.Set name value)
 said_of (Ok (lines.Window lo hi)) = Asks (commands.Window lo hi)
 said_of (Ok (lines.Tracklets night)) = Asks (commands.Tracklets night)
 said_of (Ok lines.Report) = Asks commands.Report
+said_of (Ok (lines.Ask ids)) = Asks (commands.Ask ids)
 said_of (Ok lines.Stats) = Asks commands.Stats
 said_of (Err error) = Malformed error
 
@@ -26,12 +27,13 @@ said_of (Err error) = Malformed error
 abbrev pub said_by : List ℕ → Said
 said_by line = said_of (script_line_of line)
 
--- the nights of a window's command are near, as its numbers have at most eighteen digits
+-- the nights of a window's command are near, as its numbers have at most eighteen digits, and asked ids are few, as a line is short
 abbrev pub IsNearCommand : Command → Type 0
 IsNearCommand (commands.Set name value) = Unit {0}
 IsNearCommand (commands.Window lo hi) = IsNear (lo, hi)
 IsNearCommand (commands.Tracklets night) = Unit {0}
 IsNearCommand commands.Report = Unit {0}
+IsNearCommand (commands.Ask ids) = length ids < 2 ^ 32
 IsNearCommand commands.Stats = Unit {0}
 
 abbrev pub IsNearLine : Said → Type 0

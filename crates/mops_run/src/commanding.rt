@@ -1,11 +1,12 @@
 //! The linker's answers to commands.
-ghost use Rattle.std.specs.Prelude.{◌≡◌, IfOk};
+ghost use Rattle.std.specs.Prelude.{◌≡◌, ◌<◌, ◌^◌, IfOk, length};
 ghost use Rattle.mops_run.specs.Commands.{Obeys};
 ghost use Rattle.mops_run.specs.Lines.{IsNearCommand};
 ghost use Rattle.sky_units.specs.Limits.{IsNear};
 
 use crate::lines::Command;
-use sky_units::{NoMemory, Tally, Word};
+use sky_units::{AskError, NoMemory, Tally, Word, Words};
+use std::alloc::AllocError;
 use track_report::Reply;
 use window_incr::Linker;
 
@@ -20,6 +21,7 @@ pub fn obey(linker: &mut Linker, command: Command, tally: &mut Tally) -> Result<
         Command::Window(lo, hi) => Ok(set_window(linker, lo, hi, tally)),
         Command::Tracklets(night) => Ok(Reply::Tracklets(night, linker.tracklets(night)?)),
         Command::Report => Ok(Reply::Report(linker.report(tally)?)),
+        Command::Ask(ids) => ask(linker, ids),
         Command::Stats => Ok(Reply::Stats(linker.stats()?)),
     }
 }
@@ -43,5 +45,18 @@ fn set_window(linker: &mut Linker, lo: i64, hi: i64, tally: &mut Tally) -> Reply
     match linker.set_window(lo, hi, tally) {
         Ok(()) => Reply::Window(lo, hi),
         Err(error) => Reply::WindowRefused(error),
+    }
+}
+
+/// What the detections of some ids are, as a reply.
+fn ask(linker: &Linker, ids: Words) -> Result<Reply, NoMemory>
+    requires few { length ids < 2 ^ 32 }
+    ensures { IfOk result (λ reply.
+        Obeys (Command.Ask ids) linker.now.state reply linker.now.state) }
+{
+    match linker.ask(&ids) {
+        Ok(asked) => Ok(Reply::Asked(ids, asked)),
+        Err(AskError::NoMemory) => Err(AllocError),
+        Err(error) => Ok(Reply::AskRefused(ids, error)),
     }
 }

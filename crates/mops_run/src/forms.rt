@@ -5,13 +5,10 @@ ghost use Rattle.miti_text.specs.Numerals.{size_of, with_sign};
 ghost use Rattle.mops_run.specs.Forms.{IsPlan, HasPlan, form_of as form_of_words, lone_form as lone_form_of, number_between as number_in, plan_of as plan_of_words, sky_form as sky_form_of, within as within_limits};
 
 use miti_text::read_number;
-use sky_units::Word;
+use sky_units::{MOST_NIGHTS, Word};
 
 /// The most digits of a number.
 const MOST_DIGITS: usize = 10;
-
-/// The most nights of a made sky.
-const MOST_NIGHTS: u32 = 30;
 
 /// The most objects of a made sky.
 const MOST_OBJECTS: u32 = 1_000;
@@ -90,7 +87,7 @@ fn plan_of(number: &[u8], nights: &[u8], objects: &[u8]) -> Option<SkyPlan>
 {
     Some(SkyPlan {
         number: number_between(0, u32::MAX, number)?,
-        nights: number_between(1, MOST_NIGHTS, nights)?,
+        nights: number_between(1, MOST_NIGHTS as u32, nights)?,
         objects: number_between(1, MOST_OBJECTS, objects)?,
     })
 }
@@ -121,10 +118,7 @@ fn read_size(word: &[u8]) -> Option<i64>
 fn begins_with_minus(word: &[u8]) -> bool
     ensures { result ≡ starts_with_minus word.now }
 {
-    match word {
-        [b'-', ..] => true,
-        _ => false,
-    }
+    matches!(word, [b'-', ..])
 }
 
 /// The number, where it lies between two limits.

@@ -1,7 +1,7 @@
 //! Laws over the definitions alone, each the contract of a function that does nothing else.
 ghost use Rattle.mops_run.specs.Watch.{RepliesAreUnique, RepliesExist};
 
-use window_incr::{report_exists, stats_exist};
+use window_incr::{asked_exists, report_exists, stats_exist};
 
 /// The lines of an input have only one list of replies.
 pub fn replies_are_unique()
@@ -14,4 +14,5 @@ pub fn replies_exist()
 {
     report_exists();
     stats_exist();
+    asked_exists();
 }

@@ -4,7 +4,7 @@ ghost use Rattle.mops_run.specs.Lines.{said_by as said_by_line, said_of as said_
 
 use miti_text::{Detection, LineError};
 use script_text::{Line, ScriptError, read_script_line};
-use sky_units::{NoMemory, Word};
+use sky_units::{NoMemory, Word, Words};
 use std::alloc::{AllocError, Global};
 
 /// What a line is to the program. A command, well formed or not, ends the delivery that is under way.
@@ -33,6 +33,8 @@ pub enum Command {
     Tracklets(i64),
     /// The report.
     Report,
+    /// What the detections of some ids are.
+    Ask(Words),
     /// The statistics.
     Stats,
 }
@@ -59,6 +61,7 @@ fn said_of(line: Result<Line, ScriptError>) -> Said
         Ok(Line::Window(lo, hi)) => Said::Asks(Command::Window(lo, hi)),
         Ok(Line::Tracklets(night)) => Said::Asks(Command::Tracklets(night)),
         Ok(Line::Report) => Said::Asks(Command::Report),
+        Ok(Line::Ask(ids)) => Said::Asks(Command::Ask(ids)),
         Ok(Line::Stats) => Said::Asks(Command::Stats),
         Err(error) => Said::Malformed(error),
     }

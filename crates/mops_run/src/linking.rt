@@ -14,13 +14,10 @@ use crate::lines::{Command, Said};
 use crate::watching::{one, wait};
 use miti_text::Detection;
 use script_text::ScriptError;
-use sky_units::{NoMemory, Settings, Tally, night_of};
+use sky_units::{MOST_NIGHTS, NoMemory, Settings, Tally, night_of};
 use std::alloc::Global;
 use track_report::Reply;
 use window_incr::Linker;
-
-/// How many nights of a window come after its first one.
-const NIGHTS_AFTER: i64 = 29;
 
 /// The replies to the line of a number. What would be a command, well formed or not, is refused.
 pub fn plain_reply(
@@ -37,8 +34,9 @@ pub fn plain_reply(
         Said::Nothing => Ok(Vec::new(alloc)),
         Said::Waits(detection) => wait(alloc, waiting, detection),
         Said::Refused(error) => one(alloc, Reply::Line(number, error)),
-        Said::Asks(_) => one(alloc, Reply::Script(number, ScriptError::Command)),
-        Said::Malformed(_) => one(alloc, Reply::Script(number, ScriptError::Command)),
+        Said::Asks(_) | Said::Malformed(_) => {
+            one(alloc, Reply::Script(number, ScriptError::Command))
+        }
     }
 }
 
@@ -76,8 +74,9 @@ pub fn link_all(
         return Ok(Vec::new(alloc));
     };
     let window = set_window(linker, night, tally)?;
-    let mut replies = deliver(alloc, linker, detections, tally)?;
-    replies.insert(0, window)?;
+    let mut replies = one(alloc, window)?;
+    let mut delivered = deliver(alloc, linker, detections, tally)?;
+    replies.append(&mut delivered)?;
     Ok(replies)
 }
 
@@ -88,7 +87,11 @@ fn set_window(linker: &mut Linker, night: i64, tally: &mut Tally) -> Result<Repl
         linker.old.state reply linker.new.state) }
     ensures tally { tally.new ≡ tally.old }
 {
-    obey(linker, Command::Window(night, night + NIGHTS_AFTER), tally)
+    obey(
+        linker,
+        Command::Window(night, night + (MOST_NIGHTS - 1)),
+        tally,
+    )
 }
 
 /// The least night of some detections; None without one.

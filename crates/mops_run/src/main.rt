@@ -10,6 +10,8 @@ use std::rt::Env;
 use std::{env, io};
 use top::{Status, run};
 
+#[cfg(test)]
+mod asking_tests;
 mod commanding;
 mod complaints;
 mod delivering;

@@ -78,13 +78,14 @@ set refused range\n",
         ),
         (
             "malformed_commands",
-            &["!foo\n!report now\n!window a 5\n!set tol_ra 1.5\n"],
+            &["!foo\n!report now\n!window a 5\n!ask\n!set tol_ra 1.5\n"],
             Status::DoneWithRefusals,
             &[
                 "line 1 refused command\n\
 line 2 refused words\n\
 line 3 refused number\n\
-line 4 refused number\n",
+line 4 refused words\n\
+line 5 refused number\n",
             ],
         ),
     ];

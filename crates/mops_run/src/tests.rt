@@ -132,7 +132,7 @@ pub(crate) fn run_on<I: Source, O: Sink>(
 
 /// The lines of two detections in each of three nights, at these six positions: each a right
 /// ascension and a declination.
-fn six_lines_at(alloc: Global, positions: [&str; 6]) -> Result<String, Fail> {
+pub(crate) fn six_lines_at(alloc: Global, positions: [&str; 6]) -> Result<String, Fail> {
     let [a1, a2, b1, b2, c1, c2] = positions;
     let mut text = String::new(alloc);
     for (id, epoch, position) in [

@@ -9,7 +9,7 @@ use Rattle.miti_text.specs.Numerals.{number_of}
 use Rattle.miti_text.specs.Lines.{is_text, detection_of}
 use Rattle.miti_text.specs.declared.errors.LineError.{LineError}
 use Rattle.miti_text.specs.declared.errors.LineError.TheVariants.{Byte, NoMemory}
-use Rattle.script_text.specs.Commands.{command_of, alone, one_of, two_of, or_error, ◌>>=◌, IsAnswer}
+use Rattle.script_text.specs.Commands.{command_of, ask_of, alone, one_of, two_of, or_error, ◌>>=◌, IsAnswer}
 use Rattle.script_text.specs.Script.{script_line_of, detection_line}
 use Rattle.script_text.specs.declared.lines.Line.{Line}
 use Rattle.script_text.specs.declared.lines.Line.TheVariants.{Bad, Set, Window, Tracklets, Report, Stats}
@@ -59,6 +59,10 @@ alone_case : (command : Line) (words : List (List ℕ)) (e : LineError) → (com
 alone_case command [] e other is = other cc
 alone_case command (word ∷ words) e other is = cc
 
+ask_case : (words : List (List ℕ)) (e : LineError) → ask_of words ≡ Ok (Bad e) → ⊥
+ask_case [] e is = cc
+ask_case (id ∷ ids) e is = cc
+
 chosen : (x : Bool) (a b : Result Line ScriptError) (e : LineError) → (a ≡ Ok (Bad e) → ⊥) → (b ≡ Ok (Bad e) → ⊥) → (if x then a else b) ≡ Ok (Bad e) → ⊥
 chosen true a b e no_a no_b is = no_a is
 chosen false a b e no_a no_b is = no_b is
@@ -71,7 +75,8 @@ command_case (name ∷ words) e is =
     (chosen (bytes_eq name (codes "!window")) _ _ e (window_case (two_of words) e)
     (chosen (bytes_eq name (codes "!tracklets")) _ _ e (tracklets_case (one_of words) e)
     (chosen (bytes_eq name (codes "!report")) _ _ e (alone_case Report words e (λ h. cc))
-    (chosen (bytes_eq name (codes "!stats")) _ _ e (alone_case Stats words e (λ h. cc)) (λ h. cc))))) is
+    (chosen (bytes_eq name (codes "!ask")) _ _ e (ask_case words e)
+    (chosen (bytes_eq name (codes "!stats")) _ _ e (alone_case Stats words e (λ h. cc)) (λ h. cc)))))) is
 
 pub no_bad_command : (words : List (List ℕ)) (r : Result Line ScriptError) → IsAnswer (command_of words) r → r ≡ Ok (Bad NoMemory) → ⊥
 no_bad_command words (Ok line) answer is = command_case words NoMemory (answer ∙ is)

@@ -2,7 +2,7 @@
 use Rattle.std.specs.Prelude.{◌≡◌, ℕ, List, [], ◌∷◌, Option, Some, None, Result, Ok, Err, codes, bytes_eq, if◌then◌else◌}
 use Rattle.miti_text.specs.Numerals.{number_of}
 use Rattle.script_text.specs.declared.lines.Line.{Line}
-use Rattle.script_text.specs.declared.lines.Line.TheVariants.{Set, Window, Tracklets, Report, Stats}
+use Rattle.script_text.specs.declared.lines.Line.TheVariants.{Set, Window, Tracklets, Report, Ask, Stats}
 use Rattle.script_text.specs.declared.errors.ScriptError.{ScriptError}
 use Rattle.script_text.specs.declared.errors.ScriptError.TheVariants.{Command, Words, Number, NoMemory}
 
@@ -46,6 +46,11 @@ tracklets_of words = do
   night ← or_error Number (number_of word)
   Ok (Tracklets night)
 
+-- one or more ids, which may be any words
+abbrev pub ask_of : List (List ℕ) → Result Line ScriptError
+ask_of [] = Err Words
+ask_of (id ∷ ids) = Ok (Ask (id ∷ ids))
+
 -- a command that stands alone
 abbrev pub alone : Line → List (List ℕ) → Result Line ScriptError
 alone command [] = Ok command
@@ -59,8 +64,9 @@ command_of (name ∷ words) =
     else (if bytes_eq name (codes "!window") then window_of words
     else (if bytes_eq name (codes "!tracklets") then tracklets_of words
     else (if bytes_eq name (codes "!report") then alone Report words
+    else (if bytes_eq name (codes "!ask") then ask_of words
     else (if bytes_eq name (codes "!stats") then alone Stats words
-    else Err Command))))
+    else Err Command)))))
 
 -- an answer is the expected one; want of memory alone is free
 abbrev pub IsAnswer : {A : Type 0} → Result A ScriptError → Result A ScriptError → Type 0

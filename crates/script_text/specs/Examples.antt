@@ -32,17 +32,18 @@ refused_lines = (refl, refl, refl, refl, refl)
 commands : (read (codes "!set tol_ra 300") ≡ Ok (lines.Set (codes "tol_ra") (pos 300))) × (read (codes "!set any! -07") ≡ Ok (lines.Set (codes "any!") (neg_ℤ (pos 7))))
     × (read (codes "!window 59000 59015") ≡ Ok (lines.Window (pos 59000) (pos 59015))) × (read (codes "!window  -1 0 ") ≡ Ok (lines.Window (neg_ℤ (pos 1)) (pos 0)))
     × (read (codes "!tracklets 59001") ≡ Ok (lines.Tracklets (pos 59001))) × (read (codes "!report") ≡ Ok lines.Report) × (read (codes "!stats " ++ 9 ∷ []) ≡ Ok lines.Stats)
+    × (read (codes "!ask a1 !b #") ≡ Ok (lines.Ask (codes "a1" ∷ codes "!b" ∷ codes "#" ∷ [])))
 unfolding script_line_of command_of number_of words
-commands = (refl, refl, refl, refl, refl, refl, refl)
+commands = (refl, refl, refl, refl, refl, refl, refl, refl)
 
 malformed_commands : (read (codes "!foo") ≡ Err errors.Command) × (read (codes "!report now") ≡ Err errors.Words) × (read (codes "!window a 5") ≡ Err errors.Number)
     × (read (codes "!set tol_ra 1.5") ≡ Err errors.Number) × (read (codes "!") ≡ Err errors.Command) × (read (codes "! report") ≡ Err errors.Command)
     × (read (codes "!Report") ≡ Err errors.Command) × (read (codes "!reports") ≡ Err errors.Command) × (read (codes "!set") ≡ Err errors.Words)
     × (read (codes "!set a") ≡ Err errors.Words) × (read (codes "!set a 1 2") ≡ Err errors.Words) × (read (codes "!window x") ≡ Err errors.Words)
     × (read (codes "!tracklets") ≡ Err errors.Words) × (read (codes "!tracklets +5") ≡ Err errors.Number)
-    × (read (codes "!tracklets 0000000000000000001") ≡ Err errors.Number) × (read (codes "!stats -") ≡ Err errors.Words)
+    × (read (codes "!tracklets 0000000000000000001") ≡ Err errors.Number) × (read (codes "!stats -") ≡ Err errors.Words) × (read (codes "!ask ") ≡ Err errors.Words)
 unfolding script_line_of command_of number_of words
-malformed_commands = (refl, refl, refl, refl, refl, refl, refl, refl, refl, refl, refl, refl, refl, refl, refl, refl)
+malformed_commands = (refl, refl, refl, refl, refl, refl, refl, refl, refl, refl, refl, refl, refl, refl, refl, refl, refl)
 
 -- a command with a foreign byte, and one that is too long, are bad lines; one behind a blank is a detection line
 no_commands : (read (codes "!report" ++ 13 ∷ []) ≡ Ok (lines.Bad causes.Byte)) × (read (33 ∷ 127 ∷ []) ≡ Ok (lines.Bad causes.Byte))

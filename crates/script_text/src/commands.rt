@@ -1,15 +1,15 @@
 //! The commands of a script.
-ghost use Rattle.std.specs.Prelude.{◌≡◌, ◌==◌, length};
+ghost use Rattle.std.specs.Prelude.{◌≡◌, ◌==◌, length, IfOk};
 ghost use Rattle.std.specs.Option.{option_map};
 ghost use Rattle.miti_text.specs.Words.{words};
 ghost use Rattle.miti_text.specs.Numerals.{number_of};
-ghost use Rattle.script_text.specs.Commands.{command_of, set_of, window_of, tracklets_of, alone, one_of, two_of, or_error, IsAnswer};
+ghost use Rattle.script_text.specs.Commands.{command_of, set_of, window_of, tracklets_of, ask_of, alone, one_of, two_of, or_error, IsAnswer};
 ghost use Rattle.script_text.specs.declared.errors.ScriptError.TheVariants as errors;
 ghost use Rattle.script_text.specs.declared.lines.Line.TheVariants as lines;
 
 use crate::{Line, ScriptError};
 use miti_text::{next_word, read_number};
-use sky_units::Word;
+use sky_units::{NoMemory, Word, Words};
 use std::alloc::Global;
 
 /// What a command line says; or why it is malformed.
@@ -29,6 +29,9 @@ pub fn read_command(alloc: Global, line: &[u8]) -> Result<Line, ScriptError>
     }
     if name == b"!report".as_slice() {
         return no_words(rest, Line::Report);
+    }
+    if name == b"!ask".as_slice() {
+        return read_ask(alloc, rest);
     }
     if name == b"!stats".as_slice() {
         return no_words(rest, Line::Stats);
@@ -59,6 +62,30 @@ fn read_tracklets(text: &[u8]) -> Result<Line, ScriptError>
 {
     let night = one_word(text).ok_or(ScriptError::Words)?;
     Ok(Line::Tracklets(number(night)?))
+}
+
+/// The words after `!ask`: one or more ids, which may be any words.
+fn read_ask(alloc: Global, text: &[u8]) -> Result<Line, ScriptError>
+    ensures { IsAnswer (ask_of (words text.now)) result }
+{
+    let ids = all_words(alloc, text)?;
+    if ids.items().is_empty() {
+        return Err(ScriptError::Words);
+    }
+    Ok(Line::Ask(ids))
+}
+
+/// The words of a text.
+fn all_words(alloc: Global, text: &[u8]) -> Result<Words, NoMemory>
+    ensures { IfOk result (λ found. found ≡ words text.now) }
+{
+    let mut found = Words::new(alloc);
+    let mut rest = text;
+    while let Some((word, behind)) = next_word(rest) {
+        found.push(Word::new(alloc, word)?)?;
+        rest = behind;
+    }
+    Ok(found)
 }
 
 /// This command, where no word follows it.

@@ -1,6 +1,6 @@
 //! What a script line says.
 use miti_text::{Detection, LineError};
-use sky_units::Word;
+use sky_units::{Word, Words};
 
 /// What a script line says.
 #[derive(Debug, Drop)]
@@ -19,6 +19,8 @@ pub enum Line {
     Tracklets(i64),
     /// `!report`.
     Report,
+    /// `!ask`: one or more ids.
+    Ask(Words),
     /// `!stats`.
     Stats,
 }

@@ -22,6 +22,10 @@ fn lines_and_commands(rt: HostRuntime) -> Result<(), Fail> {
         ("!window 59000 59015", "Ok(Window(59000, 59015))"),
         ("!tracklets -1", "Ok(Tracklets(-1))"),
         ("!report", "Ok(Report)"),
+        (
+            "!ask a !b",
+            "Ok(Ask(Words { items: [Word { bytes: [97] }, Word { bytes: [33, 98] }] }))",
+        ),
         ("!stats", "Ok(Stats)"),
     ];
     expect(&rt, &table)?;
@@ -36,6 +40,7 @@ fn malformed_commands(rt: HostRuntime) -> Result<(), Fail> {
         ("!foo", "Err(Command)"),
         ("!report now", "Err(Words)"),
         ("!window a 5", "Err(Number)"),
+        ("!ask", "Err(Words)"),
         ("!set tol_ra 1.5", "Err(Number)"),
     ];
     expect(&rt, &table)

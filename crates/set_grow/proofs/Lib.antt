@@ -1,7 +1,7 @@
-pub mod Besides
 pub mod Choices
 pub mod Chosen
 pub mod Decided
+pub mod EndsOfNights
 pub mod Gathering
 pub mod Heredity
 pub mod MaximalTracks
@@ -9,7 +9,9 @@ pub mod Members
 pub mod NightParts
 pub mod NumberSets
 pub mod Pairing
+pub mod Partnering
 pub mod Putting
 pub mod Seating
 pub mod SkyFits
 pub mod SortedSets
+pub mod Together

@@ -153,13 +153,3 @@ pub closed_above : (Fits : List ℕ → Type 0) → IsHereditary Fits → ((set 
 closed_above Fits h d from within set f =
     let g = grown Fits h d from set f in
     (g.list, record { fits = g.fits; full = λ other k a. each_among other g.list (λ y c. g.full other y k a (among other from y (within other k) c) c) }, g.keeps)
-
--- ---- three numbers that rise are a set
-pub three_set : (a b c : ℕ) → a < b → b < c → IsSet (a ∷ b ∷ c ∷ [])
-three_set a b c l m =
-    let last : IsSet (c ∷ []) = set_cons c [] (λ y k. absurd (in_none y k)) none_set in
-    let two : IsSet (b ∷ c ∷ []) = set_cons b (c ∷ []) (λ y k. elim (front_or_rest c [] y k) [ inl e ↦ omega (arith, m, e) | inr d ↦ absurd (in_none y d) ]) last in
-    set_cons a (b ∷ c ∷ []) (λ y k. elim (front_or_rest b (c ∷ []) y k) [
-      | inl e ↦ omega (arith, l, e)
-      | inr d ↦ elim (front_or_rest c [] y d) [ inl e ↦ omega (arith, l, m, e) | inr f ↦ absurd (in_none y f) ]
-    ]) two

@@ -1,19 +1,22 @@
 -- The pairs of partners that fit together with an item are its fitting pairs.
 use Rattle.std.proofs.Common.{◌≡◌, ℕ, ◌<◌, ◌≤◌, Bool, true, false, cond, nat_lt, List, [], ◌∷◌, ◌++◌, IsTrue, refl, sym, subst, ap, ◌∙◌, ◌↔◌, arith, tests}
 use Rattle.std.proofs.lemmas.Bool.{cases_lt, false≢true}
-use Rattle.std.proofs.lemmas.List.Elements.{Contains-append_left, Contains-push, Contains-push_cases}
+use Rattle.std.proofs.lemmas.List.Elements.{All-cons, All-nil, Contains-append_left, Contains-push, Contains-push_cases}
 use Rattle.std.specs.List.{Contains}
 use mathlib.Core.Logic.{◌⊎◌, inl, inr}
 use Rattle.closed_sets.specs.Around.{AreFittingPairs, FitTogether, IsFittingPair}
 use Rattle.closed_sets.specs.Counting.{AreDifferent}
-use Rattle.closed_sets.specs.Families.{IsSet}
 use Rattle.sky_units.specs.Tracks.{AreAmong}
 use Rattle.set_grow.specs.Nights.{AreInPlace}
-use Rattle.set_grow.specs.Partners.{ArePartners, FitApart, IsPairAmong, IsPairOf, IsPairWith, IsRisingPair, ordered, partner_numbers}
-use Rattle.set_grow.specs.SkyData.{FitsWithParts, SkyData, with_parts}
+use Rattle.bound_prune.specs.EndsData.{EndsData}
+use Rattle.set_grow.specs.Ends.{MayGo, ends_there}
+use Rattle.set_grow.specs.Partners.{ArePartners, FitApart, IsPairAmong, IsPartner, IsPairOf, IsPairWith, IsRisingPair, ordered, partner_numbers}
+use Rattle.set_grow.specs.SkyData.{FitsWithParts, SkyData}
 use Rattle.set_grow.specs.declared.partners.Partner.{Partner}
 use Rattle.set_grow.proofs.Members.{among, each_among, front_or_rest, in_front, in_mapped, in_none, in_rest, of_mapped}
+use Rattle.set_grow.proofs.Partnering.{fit_may}
 use Rattle.set_grow.proofs.Seating.{none_sharing}
+use Rattle.set_grow.proofs.Together.{fewer}
 
 abbrev number_of : Partner → ℕ
 number_of partner = partner.number
@@ -89,33 +92,29 @@ pair_among sky item (first ∷ partners) pair one other c k differ q = elim (fro
 ]
 
 -- ---- they are the fitting pairs
--- what fits together with more fits together with less
-fewer : (Fits : List ℕ → Type 0) (numbers some : List ℕ) → AreAmong some numbers → FitTogether Fits numbers → FitTogether Fits some
-fewer Fits numbers some h f = record { whole = f.whole; fits = f.fits; has = each_among some f.whole (λ x c. among numbers f.whole x f.has (among some numbers x h c)) }
-
 -- numbers of one fitting set are of different nights
-nights_apart : (sky : SkyData) (item : ℕ) (partners : List Partner) (one other : Partner) (numbers : List ℕ) → AreInPlace sky.nights sky.table → ArePartners sky item partners → Contains partners one → Contains partners other → ¬ (one.number ≡ other.number) → FitTogether (FitsWithParts sky) numbers → Contains numbers one.number → Contains numbers other.number → ¬ (one.night ≡ other.night)
+nights_apart : (sky : SkyData) (item : Partner) (partners : List Partner) (one other : Partner) (numbers : List ℕ) → AreInPlace sky.nights sky.table → ArePartners sky item partners → Contains partners one → Contains partners other → ¬ (one.number ≡ other.number) → FitTogether (FitsWithParts sky) numbers → Contains numbers one.number → Contains numbers other.number → ¬ (one.seat.night ≡ other.seat.night)
 nights_apart sky item partners one other numbers p ps c k differ f i j = λ e.
-    let v = ps.seated one c in
-    let w = ps.seated other k in
+    let v = (ps.each one c).is.seat in
+    let w = (ps.each other k).is.seat in
     let whole = f.fits.fits in
-    none_sharing sky.nights sky.table f.whole whole.tracklets one.number other.number v.0 w.0 p
-    (among numbers f.whole one.number f.has i) (among numbers f.whole other.number f.has j) differ v.1 w.1 (v.2 ∙ (e ∙ sym w.2)) whole.are
+    none_sharing sky.nights sky.table f.whole whole.tracklets one.number other.number one.seat other.seat p
+    (among numbers f.whole one.number f.has i) (among numbers f.whole other.number f.has j) differ v w e whole.are
 
-fitting_of : (sky : SkyData) (item : ℕ) (partners : List Partner) (pair : ℕ × ℕ) → ArePartners sky item partners → IsPairAmong sky item partners pair → IsFittingPair (FitsWithParts sky) item pair
+fitting_of : (sky : SkyData) (item : Partner) (partners : List Partner) (pair : ℕ × ℕ) → ArePartners sky item partners → IsPairAmong sky item.number partners pair → IsFittingPair (FitsWithParts sky) item.number pair
 fitting_of sky item partners pair ps h =
-    let t = two_partners sky item partners pair ps.different h in
-    let not_item : (partner : Partner) → Contains partners partner → ¬ (partner.number ≡ item) = λ partner c e. ps.others (subst (Contains (partner_numbers partners)) e (in_mapped number_of partners partner c)) in
-    let r : IsRisingPair item pair = subst (IsRisingPair item) (sym t.are.is) (rising_pair item t.one.number t.other.number t.differ (not_item t.one t.has_one) (not_item t.other t.has_other)) in
+    let t = two_partners sky item.number partners pair ps.different h in
+    let not_item : (partner : Partner) → Contains partners partner → ¬ (partner.number ≡ item.number) = λ partner c e. ps.others (subst (Contains (partner_numbers partners)) e (in_mapped number_of partners partner c)) in
+    let r : IsRisingPair item.number pair = subst (IsRisingPair item.number) (sym t.are.is) (rising_pair item.number t.one.number t.other.number t.differ (not_item t.one t.has_one) (not_item t.other t.has_other)) in
     record { rising = r.rising; first = r.first; second = r.second; fit = t.are.fit }
 
-of_fitting : (sky : SkyData) (item : ℕ) (partners : List Partner) (pair : ℕ × ℕ) → AreInPlace sky.nights sky.table → ArePartners sky item partners → IsFittingPair (FitsWithParts sky) item pair → IsPairAmong sky item partners pair
+of_fitting : (sky : SkyData) (item : Partner) (partners : List Partner) (pair : ℕ × ℕ) → AreInPlace sky.nights sky.table → ArePartners sky item partners → IsFittingPair (FitsWithParts sky) item.number pair → IsPairAmong sky item.number partners pair
 of_fitting sky item partners pair p ps f =
-    let three : List ℕ = item ∷ pair.0 ∷ pair.1 ∷ [] in
-    let zero_in : Contains three pair.0 = in_rest item (pair.0 ∷ pair.1 ∷ []) pair.0 (in_front pair.0 (pair.1 ∷ [])) in
-    let one_in : Contains three pair.1 = in_rest item (pair.0 ∷ pair.1 ∷ []) pair.1 (in_rest pair.0 (pair.1 ∷ []) pair.1 (in_front pair.1 [])) in
-    let with : (x : ℕ) → Contains three x → FitTogether (FitsWithParts sky) (item ∷ x ∷ []) = λ x c. fewer (FitsWithParts sky) three (item ∷ x ∷ []) (each_among (item ∷ x ∷ []) three (λ y k. elim (front_or_rest item (x ∷ []) y k) [
-      | inl e ↦ subst (Contains three) e (in_front item (pair.0 ∷ pair.1 ∷ []))
+    let three : List ℕ = item.number ∷ pair.0 ∷ pair.1 ∷ [] in
+    let zero_in : Contains three pair.0 = in_rest item.number (pair.0 ∷ pair.1 ∷ []) pair.0 (in_front pair.0 (pair.1 ∷ [])) in
+    let one_in : Contains three pair.1 = in_rest item.number (pair.0 ∷ pair.1 ∷ []) pair.1 (in_rest pair.0 (pair.1 ∷ []) pair.1 (in_front pair.1 [])) in
+    let with : (x : ℕ) → Contains three x → FitTogether (FitsWithParts sky) (item.number ∷ x ∷ []) = λ x c. fewer (FitsWithParts sky) three (item.number ∷ x ∷ []) (each_among (item.number ∷ x ∷ []) three (λ y k. elim (front_or_rest item.number (x ∷ []) y k) [
+      | inl e ↦ subst (Contains three) e (in_front item.number (pair.0 ∷ pair.1 ∷ []))
       | inr l ↦ elim (front_or_rest x [] y l) [ inl e ↦ subst (Contains three) e c | inr m ↦ absurd (in_none y m) ]
     ])) f.fit in
     let one = of_mapped number_of partners pair.0 (ps.complete pair.0 f.first (with pair.0 zero_in)) in
@@ -124,20 +123,72 @@ of_fitting sky item partners pair p ps f =
     let differ : ¬ (one.0.number ≡ other.0.number) = λ e. (let same : pair.0 ≡ pair.1 = sym one.2 ∙ (e ∙ other.2) in omega (arith, less, same)) in
     let apart = nights_apart sky item partners one.0 other.0 three p ps one.1 other.1 differ f.fit (subst (Contains three) (sym one.2) zero_in) (subst (Contains three) (sym other.2) one_in) in
     let is : ordered one.0.number other.0.number ≡ pair = ap (λ a. ordered a other.0.number) one.2 ∙ (ap (ordered pair.0) other.2 ∙ ordered_less pair.0 pair.1 less) in
-    pair_among sky item partners pair one.0 other.0 one.1 other.1 differ (record { apart = apart; is = sym is; fit = f.fit })
+    pair_among sky item.number partners pair one.0 other.0 one.1 other.1 differ (record { apart = apart; is = sym is; fit = f.fit })
 
-pub fitting_pairs_are : (sky : SkyData) (item : ℕ) (partners : List Partner) (pairs : List (ℕ × ℕ)) → AreInPlace sky.nights sky.table → ArePartners sky item partners → ((pair : ℕ × ℕ) → IsPairAmong sky item partners pair ↔ Contains pairs pair) → AreFittingPairs (FitsWithParts sky) item pairs
+pub fitting_pairs_are : (sky : SkyData) (item : Partner) (partners : List Partner) (pairs : List (ℕ × ℕ)) → AreInPlace sky.nights sky.table → ArePartners sky item partners → ((pair : ℕ × ℕ) → IsPairAmong sky item.number partners pair ↔ Contains pairs pair) → AreFittingPairs (FitsWithParts sky) item.number pairs
 fitting_pairs_are sky item partners pairs p ps h = λ pair. (
   λ c. fitting_of sky item partners pair ps ((h pair).1 c),
   λ f. (h pair).0 (of_fitting sky item partners pair p ps f),
 )
 
--- ---- the test of three numbers
-pub trio_fits : (sky : SkyData) (item : ℕ) (pair : ℕ × ℕ) (trio : List ℕ) → IsSet trio → ((x : ℕ) → Contains trio x ↔ Contains (item ∷ pair.0 ∷ pair.1 ∷ []) x) → FitsWithParts sky trio ↔ FitTogether (FitsWithParts sky) (item ∷ pair.0 ∷ pair.1 ∷ [])
-trio_fits sky item pair trio is_set exactly = (
-  λ f. record { whole = trio; fits = f; has = each_among (item ∷ pair.0 ∷ pair.1 ∷ []) trio (λ x c. (exactly x).1 c) },
-  λ f. (with_parts sky).parts f.whole trio f.fits is_set (each_among trio f.whole (λ x c. among (item ∷ pair.0 ∷ pair.1 ∷ []) f.whole x f.has ((exactly x).0 c))),
+-- ---- three numbers in any order
+first_of : (a b c : ℕ) → Contains (a ∷ b ∷ c ∷ []) a
+first_of a b c = in_front a (b ∷ c ∷ [])
+
+second_of : (a b c : ℕ) → Contains (a ∷ b ∷ c ∷ []) b
+second_of a b c = in_rest a (b ∷ c ∷ []) b (in_front b (c ∷ []))
+
+third_of : (a b c : ℕ) → Contains (a ∷ b ∷ c ∷ []) c
+third_of a b c = in_rest a (b ∷ c ∷ []) c (in_rest b (c ∷ []) c (in_front c []))
+
+three_among : (a b c : ℕ) (xs : List ℕ) → Contains xs a → Contains xs b → Contains xs c → AreAmong (a ∷ b ∷ c ∷ []) xs
+three_among a b c xs i j k = All-cons (Contains xs) a (b ∷ c ∷ []) i (All-cons (Contains xs) b (c ∷ []) j (All-cons (Contains xs) c [] k (All-nil (Contains xs))))
+
+-- the last one first, or the first two the other way round
+pub last_first : (Fits : List ℕ → Type 0) (a b c : ℕ) → FitTogether Fits (a ∷ b ∷ c ∷ []) ↔ FitTogether Fits (c ∷ a ∷ b ∷ [])
+last_first Fits a b c = (
+  fewer Fits (a ∷ b ∷ c ∷ []) (c ∷ a ∷ b ∷ []) (three_among c a b (a ∷ b ∷ c ∷ []) (third_of a b c) (first_of a b c) (second_of a b c)),
+  fewer Fits (c ∷ a ∷ b ∷ []) (a ∷ b ∷ c ∷ []) (three_among a b c (c ∷ a ∷ b ∷ []) (second_of c a b) (third_of c a b) (first_of c a b)),
 )
+
+pub second_first : (Fits : List ℕ → Type 0) (a b c : ℕ) → FitTogether Fits (a ∷ b ∷ c ∷ []) ↔ FitTogether Fits (b ∷ a ∷ c ∷ [])
+second_first Fits a b c = (turn Fits a b c, turn Fits b a c)
+  where
+    turn : (Fits : List ℕ → Type 0) (a b c : ℕ) → FitTogether Fits (a ∷ b ∷ c ∷ []) → FitTogether Fits (b ∷ a ∷ c ∷ [])
+    turn Fits a b c = fewer Fits (a ∷ b ∷ c ∷ []) (b ∷ a ∷ c ∷ []) (three_among b a c (a ∷ b ∷ c ∷ []) (second_of a b c) (first_of a b c) (third_of a b c))
+
+last_two : (Fits : List ℕ → Type 0) (a b c : ℕ) → FitTogether Fits (a ∷ b ∷ c ∷ []) → FitTogether Fits (a ∷ c ∷ b ∷ [])
+last_two Fits a b c = fewer Fits (a ∷ b ∷ c ∷ []) (a ∷ c ∷ b ∷ []) (three_among a c b (a ∷ b ∷ c ∷ []) (first_of a b c) (third_of a b c) (second_of a b c))
+
+-- an item and two numbers in order fit together where it and the two in any order do
+pub in_any_order : (sky : SkyData) (item a b : ℕ) → FitTogether (FitsWithParts sky) (item ∷ a ∷ b ∷ []) ↔ FitTogether (FitsWithParts sky) (item ∷ (ordered a b).0 ∷ (ordered a b).1 ∷ [])
+in_any_order sky item a b = elim (cases_lt a b) [
+  | inl l ↦ subst (λ (pair : ℕ × ℕ). FitTogether (FitsWithParts sky) (item ∷ a ∷ b ∷ []) ↔ FitTogether (FitsWithParts sky) (item ∷ pair.0 ∷ pair.1 ∷ [])) (sym (ordered_less a b l)) (λ f. f, λ f. f)
+  | inr g ↦ subst (λ (pair : ℕ × ℕ). FitTogether (FitsWithParts sky) (item ∷ a ∷ b ∷ []) ↔ FitTogether (FitsWithParts sky) (item ∷ pair.0 ∷ pair.1 ∷ [])) (sym (ordered_more a b g)) (last_two (FitsWithParts sky) item a b, last_two (FitsWithParts sky) item b a)
+]
+
+-- ---- the test of two partners
+pub fit_apart_by : (sky : SkyData) (item : ℕ) (one other : Partner) (b : Bool) → ¬ (one.seat.night ≡ other.seat.night) → IsTrue b ↔ FitTogether (FitsWithParts sky) (item ∷ one.number ∷ other.number ∷ []) → IsTrue b ↔ FitApart sky item one other
+fit_apart_by sky item one other b apart says = (λ t. (apart, (in_any_order sky item one.number other.number).0 (says.0 t)), λ f. says.1 ((in_any_order sky item one.number other.number).1 f.1))
+
+pub fit_back_by : (sky : SkyData) (item : ℕ) (one other : Partner) (b : Bool) → ¬ (one.seat.night ≡ other.seat.night) → IsTrue b ↔ FitTogether (FitsWithParts sky) (item ∷ other.number ∷ one.number ∷ []) → IsTrue b ↔ FitApart sky item one other
+fit_back_by sky item one other b apart says = fit_apart_by sky item one other b apart (λ t. last_two (FitsWithParts sky) item other.number one.number (says.0 t), λ f. says.1 (last_two (FitsWithParts sky) item one.number other.number f))
+
+pub may_where_fit : (sky : SkyData) (item : ℕ) (one other : Partner) → AreInPlace sky.nights sky.table → IsPartner sky one → IsPartner sky other → ¬ (one.number ≡ other.number) → FitApart sky item one other → MayGo sky.settings one.seat.night one.ends other.seat.night other.ends
+may_where_fit sky item one other p v w differ f =
+    let three = (in_any_order sky item one.number other.number).1 f.1 in
+    let two = fewer (FitsWithParts sky) (item ∷ one.number ∷ other.number ∷ []) (one.number ∷ other.number ∷ [])
+    (All-cons (Contains (item ∷ one.number ∷ other.number ∷ [])) one.number (other.number ∷ []) (second_of item one.number other.number) (All-cons (Contains (item ∷ one.number ∷ other.number ∷ [])) other.number [] (third_of item one.number other.number) (All-nil (Contains (item ∷ one.number ∷ other.number ∷ []))))) three in
+    let may = fit_may sky one.number other.number one.seat other.seat p v.seat w.seat differ two in
+    subst (λ (d : EndsData). MayGo sky.settings one.seat.night one.ends other.seat.night d) (sym w.ends) (subst (λ (d : EndsData). MayGo sky.settings one.seat.night d other.seat.night (ends_there sky.settings sky.nights other.seat)) (sym v.ends) may)
+
+-- numbers that rise in order differ
+pub apart_of_rising : (item a b : ℕ) → IsRisingPair item (ordered a b) → ¬ (a ≡ b)
+apart_of_rising item a b r = λ e.
+    let l = r.rising in
+    let is : ordered a b ≡ (b, a) = ordered_more a b (omega (arith, e)) in
+    let less : b < a = subst (λ (pair : ℕ × ℕ). pair.0 < pair.1) is r.rising in
+    omega (arith, less, e)
 
 -- ---- one partner after the other
 abbrev pub HoldsPairs : SkyData → ℕ → Partner → List Partner → List (ℕ × ℕ) → List (ℕ × ℕ) → Type 0
@@ -187,12 +238,14 @@ pairs_more sky item one other others old new false says h = λ pair. (
 pub record AreFoundOf (sky : SkyData) (item : ℕ) (partners rest : List Partner) (pairs : List (ℕ × ℕ)) : Type 0 where
   pub different : AreDifferent (partner_numbers rest)
   pub others : ¬ Contains (partner_numbers rest) item
+  pub inside : (partner : Partner) → Contains rest partner → Contains partners partner
   pub exactly : (pair : ℕ × ℕ) → IsPairAmong sky item partners pair ↔ (Contains pairs pair ⊎ IsPairAmong sky item rest pair)
 
-pub none_found : (sky : SkyData) (item : ℕ) (partners : List Partner) → ArePartners sky item partners → AreFoundOf sky item partners partners []
+pub none_found : (sky : SkyData) (item : Partner) (partners : List Partner) → ArePartners sky item partners → AreFoundOf sky item.number partners partners []
 none_found sky item partners ps = record {
   different = ps.different;
   others = ps.others;
+  inside = λ partner c. c;
   exactly = λ pair. (λ h. inr h, λ w. elim w [ inl c ↦ absurd (in_none pair c) | inr h ↦ h ]);
 }
 
@@ -202,6 +255,7 @@ found_more sky item partners one others rest old new e f h =
     record {
       different = f'.different.1;
       others = λ c. f'.others (in_rest one.number (partner_numbers others) item c);
+      inside = λ partner c. f'.inside partner (in_rest one others partner c);
       exactly = λ pair. (
         λ a. elim ((f'.exactly pair).0 a) [
           | inl c ↦ inl ((h pair).1 (inl c))
@@ -227,3 +281,10 @@ rising_left sky item partners one others rest pairs e f other c =
     (λ s. f'.different.0 (subst (Contains (partner_numbers others)) (sym s) (in_mapped number_of others other c)))
     (λ s. f'.others (subst (Contains (partner_numbers (one ∷ others))) s (in_front one.number (partner_numbers others))))
     (λ s. f'.others (subst (Contains (partner_numbers (one ∷ others))) s (in_rest one.number (partner_numbers others) other.number (in_mapped number_of others other c))))
+
+-- what is left are partners
+pub one_left : (sky : SkyData) (item : ℕ) (partners : List Partner) (one : Partner) (others rest : List Partner) (pairs : List (ℕ × ℕ)) → rest ≡ one ∷ others → AreFoundOf sky item partners rest pairs → Contains partners one
+one_left sky item partners one others rest pairs e f = f.inside one (subst (λ list. Contains list one) (sym e) (in_front one others))
+
+pub other_left : (sky : SkyData) (item : ℕ) (partners : List Partner) (one : Partner) (others rest : List Partner) (pairs : List (ℕ × ℕ)) (other : Partner) → rest ≡ one ∷ others → AreFoundOf sky item partners rest pairs → Contains others other → Contains partners other
+other_left sky item partners one others rest pairs other e f c = f.inside other (subst (λ list. Contains list other) (sym e) (in_rest one others other c))

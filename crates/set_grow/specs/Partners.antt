@@ -1,10 +1,10 @@
 -- Which two numbers fit together with an item.
-use Rattle.std.specs.Prelude.{ℕ, ◌≡◌, ◌<◌, ◌⊎◌, ◌+◌, ◌++◌, if◌then◌else◌, nat_eq, nat_lt, List, [], ◌∷◌, map}
+use Rattle.std.specs.Prelude.{ℕ, ◌≡◌, ◌<◌, ◌⊎◌, if◌then◌else◌, nat_lt, List, [], ◌∷◌, map}
 use Rattle.std.specs.List.{Contains}
 use Rattle.closed_sets.specs.Around.{FitTogether}
 use Rattle.closed_sets.specs.Counting.{AreDifferent}
-use Rattle.set_grow.specs.Nights.{NumberedNightData}
-use Rattle.set_grow.specs.Numbered.{numbers_in}
+use Rattle.bound_prune.specs.EndsData.{EndsData}
+use Rattle.set_grow.specs.Ends.{MayGo, ends_there}
 use Rattle.set_grow.specs.Seats.{IsSeatOf}
 use Rattle.set_grow.specs.SkyData.{FitsWithParts, SkyData}
 use Rattle.set_grow.specs.declared.partners.Partner.{Partner}
@@ -14,16 +14,37 @@ use Rattle.set_grow.specs.declared.seats.Seat.{Seat}
 abbrev pub partner_numbers : List Partner → List ℕ
 partner_numbers partners = map (λ (partner : Partner). partner.number) partners
 
--- a partner's night is that of its number
-abbrev pub IsOfItsNight : SkyData → Partner → Type 0
-IsOfItsNight sky partner = (seat : Seat) × IsSeatOf sky.nights partner.number seat × (seat.night ≡ partner.night)
+-- a partner stands where its number stands, and its ends are those of its tracklet
+pub record IsPartner (sky : SkyData) (partner : Partner) : Type 0 where
+  pub seat : IsSeatOf sky.nights partner.number partner.seat
+  pub ends : partner.ends ≡ ends_there sky.settings sky.nights partner.seat
+
+-- it may be of one object with an item of another night
+pub record IsPartnerOf (sky : SkyData) (item partner : Partner) : Type 0 where
+  pub is : IsPartner sky partner
+  pub may : MayGo sky.settings item.seat.night item.ends partner.seat.night partner.ends
 
 -- partners of an item: other numbers, each once, among them all that fit together with it
-pub record ArePartners (sky : SkyData) (item : ℕ) (partners : List Partner) : Type 0 where
+pub record ArePartners (sky : SkyData) (item : Partner) (partners : List Partner) : Type 0 where
   pub different : AreDifferent (partner_numbers partners)
-  pub others : ¬ Contains (partner_numbers partners) item
-  pub seated : (partner : Partner) → Contains partners partner → IsOfItsNight sky partner
-  pub complete : (number : ℕ) → ¬ (number ≡ item) → FitTogether (FitsWithParts sky) (item ∷ number ∷ []) → Contains (partner_numbers partners) number
+  pub others : ¬ Contains (partner_numbers partners) item.number
+  pub each : (partner : Partner) → Contains partners partner → IsPartnerOf sky item partner
+  pub complete : (number : ℕ) → ¬ (number ≡ item.number) → FitTogether (FitsWithParts sky) (item.number ∷ number ∷ []) → Contains (partner_numbers partners) number
+
+-- a seat stands before a place of a night
+abbrev pub IsPassed : ℕ → ℕ → Seat → Type 0
+IsPassed night place seat = (seat.night < night) ⊎ ((seat.night ≡ night) × (seat.place < place))
+
+-- the partners of an item before a place of a night
+pub record HoldPartners (sky : SkyData) (item : Partner) (night place : ℕ) (partners : List Partner) : Type 0 where
+  pub different : AreDifferent (partner_numbers partners)
+  pub each : (partner : Partner) → Contains partners partner → IsPartnerOf sky item partner
+  pub passed : (partner : Partner) → Contains partners partner → IsPassed night place partner.seat
+  pub complete : (number : ℕ) (seat : Seat) → IsSeatOf sky.nights number seat → IsPassed night place seat → MayGo sky.settings item.seat.night item.ends seat.night (ends_there sky.settings sky.nights seat) → Contains (partner_numbers partners) number
+
+-- a number with its seat and its ends
+abbrev pub partner_of : ℕ → Seat → EndsData → Partner
+partner_of number seat ends = record { number = number; seat = seat; ends = ends }
 
 -- two numbers, the lesser first
 abbrev pub ordered : ℕ → ℕ → ℕ × ℕ
@@ -31,11 +52,11 @@ ordered a b = if nat_lt a b then (a, b) else (b, a)
 
 -- two partners are of different nights, and their numbers fit together with the item
 abbrev pub FitApart : SkyData → ℕ → Partner → Partner → Type 0
-FitApart sky item one other = (¬ (one.night ≡ other.night)) × FitTogether (FitsWithParts sky) (item ∷ (ordered one.number other.number).0 ∷ (ordered one.number other.number).1 ∷ [])
+FitApart sky item one other = (¬ (one.seat.night ≡ other.seat.night)) × FitTogether (FitsWithParts sky) (item ∷ (ordered one.number other.number).0 ∷ (ordered one.number other.number).1 ∷ [])
 
 -- two partners of different nights give a pair: their numbers, which fit together with the item
 pub record IsPairOf (sky : SkyData) (item : ℕ) (one other : Partner) (pair : ℕ × ℕ) : Type 0 where
-  pub apart : ¬ (one.night ≡ other.night)
+  pub apart : ¬ (one.seat.night ≡ other.seat.night)
   pub is : pair ≡ ordered one.number other.number
   pub fit : FitTogether (FitsWithParts sky) (item ∷ pair.0 ∷ pair.1 ∷ [])
 
@@ -53,13 +74,3 @@ pub record IsRisingPair (item : ℕ) (pair : ℕ × ℕ) : Type 0 where
   pub rising : pair.0 < pair.1
   pub first : ¬ (pair.0 ≡ item)
   pub second : ¬ (pair.1 ≡ item)
-
--- the partner of a number in a night
-abbrev pub partner_of : ℕ → ℕ → Partner
-partner_of night number = record { number = number; night = night }
-
--- the tracklets of all nights but that of a seat; the first night has this index
-abbrev pub beside : Seat → ℕ → List NumberedNightData → List Partner
-beside seat index [] = []
-beside seat index (night ∷ nights) =
-    if nat_eq index seat.night then beside seat (index + 1) nights else map (partner_of index) (numbers_in night.tracklets) ++ beside seat (index + 1) nights

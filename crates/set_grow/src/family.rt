@@ -1,13 +1,18 @@
 //! The fitting sets of some nights as a family, for the search of closed sets.
-ghost use Rattle.std.specs.Prelude.{◌≡◌};
-ghost use Rattle.set_grow.specs.Nights.{AreInPlace};
+ghost use Rattle.std.specs.Prelude.{◌≡◌, ◌<◌, length, map, get_or, pos, [], IfOk};
+ghost use Rattle.set_grow.specs.Ends.{ends_in};
+ghost use Rattle.set_grow.specs.Nights.{AreInPlace, NumberedNightData};
+ghost use Rattle.set_grow.specs.Numbered.{without_numbers};
+ghost use Rattle.set_grow.specs.Seats.{IsSeat, one_at};
 ghost use Rattle.set_grow.specs.SkyData.{FitsWithParts, with_parts};
 
-use crate::seats::{joined, seats_of};
+use crate::ends::ends_by_night;
+use crate::seats::{Seat, joined, seats_of};
 use crate::testing::is_fitting_arc;
 use crate::{NumberedNight, Place};
+use bound_prune::TrackletEnds;
 use closed_sets::Family;
-use sky_units::{NoMemory, Settings, Tally};
+use sky_units::{NoMemory, Settings, Spot, Tally};
 use std::alloc::Global;
 use std::marker::Model;
 
@@ -17,13 +22,17 @@ use std::marker::Model;
 pub struct Sky<'a> {
     alloc: Global,
     /// The nights.
-    pub nights: &'a [NumberedNight],
+    pub nights: &'a [NumberedNight<'a>],
     /// The table.
     pub table: &'a [Place],
-    settings: &'a Settings,
+    /// The settings.
+    pub settings: &'a Settings,
+    ends: Vec<Vec<TrackletEnds>>,
 }
 
 impl<'a> Model for Sky<'a> {
+    ghost use Rattle.std.specs.Prelude.{◌≡◌, map};
+    ghost use Rattle.set_grow.specs.Ends.{ends_by_night as ends_by_night_of};
     ghost use Rattle.set_grow.specs.Nights.{AreInPlace};
     ghost use Rattle.set_grow.specs.SkyData.{SkyData};
 
@@ -35,30 +44,50 @@ impl<'a> Model for Sky<'a> {
       table = s.table.now;
     } };
 
-    ghost invariant = { λ s. AreInPlace s.nights.now s.table.now };
+    ghost invariant = { λ s. AreInPlace s.nights.now s.table.now × (map (λ list. list.items) s.ends.items ≡ ends_by_night_of s.settings.now s.nights.now) };
 }
 
 impl<'a> Sky<'a> {
-    /// The sky of these nights.
+    /// The sky of these nights. It reads each of their tracklets once.
     pub fn of(
         alloc: Global,
-        nights: &'a [NumberedNight],
+        nights: &'a [NumberedNight<'a>],
         table: &'a [Place],
         settings: &'a Settings,
-    ) -> Sky<'a>
+    ) -> Result<Sky<'a>, NoMemory>
         requires { AreInPlace nights.now table.now }
-        ensures { result ≡ record {
+        ensures { IfOk result (λ sky. sky ≡ record {
           settings = settings.now;
           nights = nights.now;
           table = table.now;
-        } }
+        }) }
     {
-        Sky {
+        let ends = ends_by_night(alloc, nights, settings)?;
+        Ok(Sky {
             alloc,
             nights,
             table,
             settings,
-        }
+            ends,
+        })
+    }
+
+    /// The ends of the tracklets of a night.
+    pub fn ends_of(&self, night: usize) -> &[TrackletEnds]
+        requires { night < length self.now.nights }
+        ensures { (d : NumberedNightData) → result.now ≡
+            ends_in self.now.settings (without_numbers (get_or self.now.nights night d).tracklets) }
+    {
+        self.ends[night].as_slice()
+    }
+
+    /// The spots of the tracklet at a seat.
+    pub fn spots_at(&self, seat: Seat) -> &[Spot]
+        requires { IsSeat self.now.nights seat }
+        ensures { result.now ≡ (one_at self.now.nights seat).tracklet }
+    {
+        let nights = self.nights;
+        nights[seat.night].tracklets()[seat.place].spots()
     }
 }
 

@@ -9,6 +9,7 @@ pub use laws::{closed_sets_hold_all, maximal_tracks_are_closed, parts_fit, spots
 pub use nights::NumberedNight;
 pub use places::Place;
 
+mod ends;
 mod family;
 mod growing;
 mod laws;

@@ -7,34 +7,34 @@ use night_tree::Night;
 use sky_units::Tracklet;
 use std::marker::Model;
 
-/// A night, and for each of its tracklets a number, in the same order.
+/// A night, and for each of its tracklets a number, in the same order. Both are lent.
 #[derive(Debug, Drop)]
-pub struct NumberedNight {
-    night: Night,
-    numbers: Vec<u32>,
+pub struct NumberedNight<'a> {
+    night: &'a Night,
+    numbers: &'a [u32],
 }
 
-impl Model for NumberedNight {
+impl<'a> Model for NumberedNight<'a> {
     ghost use Rattle.std.specs.Prelude.{◌≡◌, length};
     ghost use Rattle.set_grow.specs.Nights.{NumberedNightData, numbered_by};
 
     ghost Value = { NumberedNightData };
 
     ghost view = { λ n. record {
-      number = n.night.number;
-      tracklets = numbered_by n.numbers.items n.night.tracklets;
+      number = n.night.now.number;
+      tracklets = numbered_by n.numbers.now n.night.now.tracklets;
     } };
 
-    ghost invariant = { λ n. length n.numbers.items ≡ length n.night.tracklets };
+    ghost invariant = { λ n. length n.numbers.now ≡ length n.night.now.tracklets };
 }
 
-impl NumberedNight {
+impl<'a> NumberedNight<'a> {
     /// The night with these numbers: as many as it has tracklets, in their order.
-    pub fn of(night: Night, numbers: Vec<u32>) -> NumberedNight
-        requires { length numbers.items ≡ length night.tracklets }
+    pub fn of(night: &'a Night, numbers: &'a [u32]) -> NumberedNight<'a>
+        requires { length numbers.now ≡ length night.now.tracklets }
         ensures { result ≡ record {
-          number = night.number;
-          tracklets = numbered_by numbers.items night.tracklets;
+          number = night.now.number;
+          tracklets = numbered_by numbers.now night.now.tracklets;
         } }
     {
         NumberedNight { night, numbers }
@@ -58,6 +58,6 @@ impl NumberedNight {
     pub fn numbers(&self) -> &[u32]
         ensures { result.now ≡ numbers_in self.now.tracklets }
     {
-        self.numbers.as_slice()
+        self.numbers
     }
 }

@@ -24,7 +24,7 @@ pub struct Seat {
 /// choice of at most one tracklet of each night that has exactly these numbers.
 pub fn seats_of(
     alloc: Global,
-    nights: &[NumberedNight],
+    nights: &[NumberedNight<'_>],
     table: &[Place],
     numbers: &[u32],
 ) -> Result<Option<Vec<Seat>>, NoMemory>
@@ -47,7 +47,7 @@ pub fn seats_of(
 }
 
 /// The seat of the tracklet of a number. None where no tracklet of the nights has it.
-pub fn seat_of(nights: &[NumberedNight], table: &[Place], number: u32) -> Option<Seat>
+pub fn seat_of(nights: &[NumberedNight<'_>], table: &[Place], number: u32) -> Option<Seat>
     requires { AreInPlace nights.now table.now }
     ensures { MatchOption result (HasNoSeat nights.now number)
         (λ seat. IsSeatOf nights.now number seat) }
@@ -85,7 +85,7 @@ fn number_at(numbers: &[u32], place: u32) -> Option<u32>
 }
 
 /// The index of the night of a place.
-fn night_of(nights: &[NumberedNight], place: Place) -> Option<usize>
+fn night_of(nights: &[NumberedNight<'_>], place: Place) -> Option<usize>
     ensures { MatchOption result
         ((night : NumberedNightData) → Contains nights.now night →
         ¬ (night.number ≡ place.night))
@@ -136,7 +136,7 @@ fn place_among(seats: &[Seat], night: usize) -> Option<usize>
 /// The spots of the tracklets at some seats, one tracklet after the other.
 pub fn joined(
     alloc: Global,
-    nights: &[NumberedNight],
+    nights: &[NumberedNight<'_>],
     seats: &[Seat],
 ) -> Result<Vec<Spot>, NoMemory>
     requires { All (IsSeat nights.now) seats.now }

@@ -39,7 +39,7 @@ fn night_without_tracklets(rt: HostRuntime) -> Result<(), NoMemory> {
     let numbers = Vec::new(rt.alloc());
     assert_eq!(rt; night.tracklets().len(), 0);
     if night.tracklets().is_empty() {
-        let numbered = NumberedNight::of(night, numbers);
+        let numbered = NumberedNight::of(&night, numbers.as_slice());
         assert_eq!(rt; numbered.number(), 59_000);
         assert_eq!(rt; numbered.tracklets().len(), 0);
         assert_eq!(rt; numbered.numbers().len(), 0);

@@ -5,6 +5,8 @@
 
 pub use angles::{lift, wrap};
 pub use arcs::{is_arc, is_arc_joined, spread_fault};
+pub use ask_errors::AskError;
+pub use asked::Asked;
 pub use axis::Axis;
 pub use certificates::Cert;
 pub use euclid::{common_divisor, quotient};
@@ -30,6 +32,8 @@ pub use tracklets::{TrackSet, Tracklet};
 
 mod angles;
 mod arcs;
+mod ask_errors;
+mod asked;
 mod axis;
 mod certificates;
 mod euclid;

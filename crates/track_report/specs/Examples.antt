@@ -6,6 +6,10 @@ use Rattle.exposure_log.specs.declared.errors.AddError.TheVariants as adds
 use Rattle.exposure_log.specs.declared.errors.WindowError.TheVariants as windows
 use Rattle.miti_text.specs.declared.errors.LineError.TheVariants as lines
 use Rattle.script_text.specs.declared.errors.ScriptError.TheVariants as scripts
+use Rattle.sky_units.specs.declared.ask_errors.AskError.TheVariants as asks
+use Rattle.sky_units.specs.declared.asked.Asked.TheVariants as answers
+use Rattle.sky_units.specs.declared.axis.Axis.TheVariants.{Dec}
+use Rattle.sky_units.specs.declared.certificates.Cert.TheVariants.{Three, Four}
 use Rattle.sky_units.specs.declared.reports.Track.{Track}
 use Rattle.sky_units.specs.declared.setting_names.SetError.TheVariants as settings
 use Rattle.track_report.specs.ReportText.{quad_line, report_text}
@@ -51,6 +55,19 @@ tracklets : (text_of (replies.Tracklets (pos 59000) ((codes "a1" ∷ codes "a2" 
     ≡ codes "tracklets 59000 2\ntracklet a1 a2\ntracklet b1 b2 b3\n") × (text_of (replies.Tracklets (neg_ℤ (pos 7)) []) ≡ codes "tracklets -7 0\n")
 unfolding digits
 tracklets = (refl, refl)
+
+-- asked ids
+abbrev ids : List (List ℕ)
+ids = codes "c1" ∷ codes "a1" ∷ codes "b1" ∷ codes "d1" ∷ []
+
+asked : (text_of (replies.Asked ids (answers.Listed 12)) ≡ codes "ask listed 12\n") × (text_of (replies.Asked ids (answers.Inside 1)) ≡ codes "ask inside 1\n")
+    × (text_of (replies.Asked ids (answers.NotTracklet (neg_ℤ (pos 7)))) ≡ codes "ask untracked -7\n") × (text_of (replies.Asked ids (answers.FewNights 2)) ≡ codes "ask nights 2\n")
+    × (text_of (replies.Asked ids (answers.Spread Dec 1 0)) ≡ codes "ask spread dec a1 c1\n")
+    × (text_of (replies.Asked ids (answers.Misfit (Some (Three (1 ∷ 2 ∷ 0 ∷ []))) None)) ≡ codes "ask misfit ra 3 a1 b1 c1 dec 0\n")
+    × (text_of (replies.Asked ids (answers.Misfit None (Some (Four (1 ∷ 2 ∷ 0 ∷ 3 ∷ []))))) ≡ codes "ask misfit ra 0 dec 4 a1 b1 c1 d1\n")
+    × (text_of (replies.AskRefused ids (asks.Unknown 3)) ≡ codes "ask refused unknown d1\n") × (text_of (replies.AskRefused ids (asks.Twice 1)) ≡ codes "ask refused twice a1\n")
+unfolding digits
+asked = (refl, refl, refl, refl, refl, refl, refl, refl, refl)
 
 -- three nights with two detections each
 abbrev track : Track

@@ -5,3 +5,4 @@ pub mod ReportText
 pub mod Texts
 pub mod Refusals
 pub mod Examples
+pub mod AskedText

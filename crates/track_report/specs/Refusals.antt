@@ -14,5 +14,7 @@ is_refusal (replies.Window lo hi) = false
 is_refusal (replies.WindowRefused error) = true
 is_refusal (replies.Tracklets night tracklets) = false
 is_refusal (replies.Report report) = false
+is_refusal (replies.Asked ids asked) = false
+is_refusal (replies.AskRefused ids error) = true
 is_refusal (replies.Stats stats) = false
 is_refusal (replies.Summary number nights objects stats) = false

@@ -4,6 +4,7 @@ use Rattle.std.specs.Fmt.{signed_decimal}
 use Rattle.std.specs.List.{flat_map}
 use Rattle.exposure_log.specs.declared.errors.AddError.{AddError}
 use Rattle.exposure_log.specs.declared.errors.AddError.TheVariants.{Id}
+use Rattle.track_report.specs.AskedText.{ask_error_words, asked_words}
 use Rattle.track_report.specs.Words.{line}
 use Rattle.track_report.specs.Names.{line_error_name, script_error_name, add_error_name, window_error_name, set_error_name}
 use Rattle.track_report.specs.ReportText.{report_text}
@@ -42,6 +43,8 @@ text_of (replies.WindowRefused error) = line (codes "window" ∷ codes "refused"
 text_of (replies.Tracklets night tracklets) =
     line (codes "tracklets" ∷ signed_decimal night ∷ decimal (length tracklets) ∷ []) ++ flat_map tracklet_line tracklets
 text_of (replies.Report report) = report_text report
+text_of (replies.Asked ids asked) = line (codes "ask" ∷ asked_words ids asked)
+text_of (replies.AskRefused ids error) = line (codes "ask" ∷ codes "refused" ∷ ask_error_words ids error)
 text_of (replies.Stats stats) = stats_line stats
 text_of (replies.Summary number nights objects stats) =
     line (codes "summary" ∷ decimal number ∷ decimal nights ∷ decimal objects ∷ []) ++ stats_line stats

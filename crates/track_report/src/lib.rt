@@ -8,6 +8,7 @@ pub use read_back::read_report;
 pub use replies::{Reply, append_reply, write_reply};
 pub use reports::write_report;
 
+mod asking;
 mod errors;
 mod names;
 mod quads;

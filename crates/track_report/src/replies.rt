@@ -5,6 +5,7 @@ ghost use Rattle.track_report.specs.Words.{spaced};
 ghost use Rattle.track_report.specs.Refusals.{is_refusal};
 ghost use Rattle.track_report.specs.Texts.{text_of, add_error_words, refused_line, tracklet_line};
 
+use crate::asking::{write_ask_refused, write_asked};
 use crate::names::{
     add_error_name, line_error_name, script_error_name, set_error_name, window_error_name,
 };
@@ -13,7 +14,7 @@ use crate::words::{write_line, write_number, write_word};
 use exposure_log::{AddError, WindowError};
 use miti_text::LineError;
 use script_text::ScriptError;
-use sky_units::{Groups, NoMemory, Report, SetError, Stats, Word, Words};
+use sky_units::{AskError, Asked, Groups, NoMemory, Report, SetError, Stats, Word, Words};
 use std::alloc::Global;
 
 /// A reply to a line of a script, or to a delivery of detections.
@@ -40,6 +41,10 @@ pub enum Reply {
     Tracklets(i64, Groups),
     /// The maximal tracks.
     Report(Report),
+    /// What the detections of asked ids are.
+    Asked(Words, Asked),
+    /// Asked ids have no answer.
+    AskRefused(Words, AskError),
     /// How much is held and found.
     Stats(Stats),
     /// The number, the nights and the objects of a made sky, and what was found in it.
@@ -58,6 +63,7 @@ impl Reply {
                 | Reply::Refused(_, _, _, _)
                 | Reply::SetRefused(_)
                 | Reply::WindowRefused(_)
+                | Reply::AskRefused(_, _)
         )
     }
 }
@@ -88,6 +94,8 @@ pub fn append_reply(text: &mut Vec<u8>, reply: &Reply) -> Result<(), NoMemory>
         Reply::WindowRefused(error) => write_window_refused(text, *error),
         Reply::Tracklets(night, tracklets) => write_tracklets(text, *night, tracklets),
         Reply::Report(report) => write_report_lines(text, report),
+        Reply::Asked(ids, asked) => write_asked(text, ids, *asked),
+        Reply::AskRefused(ids, error) => write_ask_refused(text, ids, *error),
         Reply::Stats(stats) => write_stats(text, stats),
         Reply::Summary(number, nights, objects, stats) => {
             write_summary(text, *number, *nights, *objects, stats)

@@ -1,2 +1,12 @@
 pub mod Carried
+pub mod Entries
+pub mod Exchanged
 pub mod Exchanging
+pub mod Following
+pub mod Labels
+pub mod Linking
+pub mod Lists
+pub mod Marks
+pub mod Numbered
+pub mod Renewal
+pub mod Replaced

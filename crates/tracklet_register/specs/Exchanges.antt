@@ -1,5 +1,5 @@
 -- Nights before and after some tracklets went and others came.
-use Rattle.std.specs.Prelude.{ℕ, ℤ, List}
+use Rattle.std.specs.Prelude.{◌⊎◌, ◌↔◌, ℕ, ℤ, List}
 use Rattle.std.specs.List.{Contains}
 use Rattle.set_grow.specs.Numbered.{NumberedTracklet}
 use Rattle.set_grow.specs.Nights.{NumberedNightData}
@@ -14,3 +14,7 @@ pub record KeepAllBut (numbers : List ℕ) (from to : List NumberedNightData) : 
 pub record AreExchanged (went came : List ℕ) (old new : List NumberedNightData) : Type 0 where
   pub there : KeepAllBut went old new
   pub back : KeepAllBut came new old
+
+-- the numbers of two lists
+abbrev pub AreOfBoth : List ℕ → List ℕ → List ℕ → Type 0
+AreOfBoth one other both = (number : ℕ) → Contains both number ↔ (Contains one number ⊎ Contains other number)

@@ -32,7 +32,7 @@ never_both {cmp = cmp} o k l p q =
     let clash : Less ≡ Greater = sym p ∙ (o.antisymm k l ∙ ap ordering_reverse q) in
     cc
 
-lists_agree : (s : LinkerState) (one other : List TrackSetData) → IsReportList s one → IsReportList s other → one ≡ other
+pub lists_agree : (s : LinkerState) (one other : List TrackSetData) → IsReportList s one → IsReportList s other → one ≡ other
 lists_agree s one other p q = same_members (λ a b. set_cmp s.log a b ≡ Less) (never_both (set_total s.log)) one other p.in_order q.in_order
     (λ set c. (q.listed set).1 ((p.listed set).0 c)) (λ set c. (p.listed set).1 ((q.listed set).0 c))
 

@@ -6,3 +6,13 @@ pub mod TracksTold
 pub mod Agreement
 pub mod ReportLists
 pub mod SameHeld
+pub mod FirstPlaces
+pub mod TrackNumbers
+pub mod AskedNumbers
+pub mod AskedIds
+pub mod AskedNights
+pub mod AskedPlaces
+pub mod AskedTracks
+pub mod AskedOnce
+pub mod AskedFound
+pub mod AskedExists

@@ -1,13 +1,16 @@
 -- Laws over the definitions alone.
-use Rattle.std.specs.Prelude.{◌≡◌, ◌↔◌, map}
+use Rattle.std.specs.Prelude.{◌≡◌, ◌↔◌, ℕ, List, Result, map}
 use Rattle.std.specs.List.{Contains}
 use Rattle.miti_text.specs.Observation.{Observation}
 use Rattle.sky_units.specs.SettingsData.{AreSettings}
+use Rattle.sky_units.specs.declared.ask_errors.AskError.{AskError}
+use Rattle.sky_units.specs.declared.asked.Asked.{Asked}
 use Rattle.sky_units.specs.declared.reports.Report.{Report}
 use Rattle.sky_units.specs.declared.statistics.Stats.{Stats}
 use Rattle.exposure_log.specs.Held.{LogData, detections_of}
 use Rattle.window_incr.specs.LinkerState.{LinkerState}
 use Rattle.window_incr.specs.Answers.{IsReport, AreStats}
+use Rattle.window_incr.specs.Asked.{IsAsked}
 use Rattle.window_incr.specs.Soundness.{IsSoundState}
 
 -- a state has one report
@@ -39,3 +42,11 @@ ReportExists = (s : LinkerState) → IsSoundState s → AreSettings s.settings �
 -- and statistics
 abbrev pub StatsExist : Type 0
 StatsExist = (s : LinkerState) → IsSoundState s → (stats : Stats) × AreStats s stats
+
+-- a state has one answer to asked ids
+abbrev pub AskedIsUnique : Type 0
+AskedIsUnique = (s : LinkerState) (ids : List (List ℕ)) (one other : Result Asked AskError) → IsAsked s ids one → IsAsked s ids other → one ≡ other
+
+-- and each sound state has one
+abbrev pub AskedExists : Type 0
+AskedExists = (s : LinkerState) (ids : List (List ℕ)) → IsSoundState s → AreSettings s.settings → (answer : Result Asked AskError) × IsAsked s ids answer

@@ -2,3 +2,5 @@ pub mod LinkerState
 pub mod Answers
 pub mod Soundness
 pub mod Laws
+pub mod Asked
+pub mod Asking

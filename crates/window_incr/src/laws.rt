@@ -1,5 +1,5 @@
 //! Laws over the definitions alone: each is the contract of a function that does nothing else.
-ghost use Rattle.window_incr.specs.Laws.{ReportExists, ReportFollows, ReportIsUnique, StatsAreUnique, StatsExist};
+ghost use Rattle.window_incr.specs.Laws.{AskedExists, AskedIsUnique, ReportExists, ReportFollows, ReportIsUnique, StatsAreUnique, StatsExist};
 
 use plain_tracks::maximal_tracks_exist;
 
@@ -30,6 +30,19 @@ pub fn report_exists()
 #[tactic(auto, using(crate::proofs::ReportLists::stats_exist))]
 pub fn stats_exist()
     ensures { StatsExist }
+{
+    maximal_tracks_exist();
+}
+
+/// A state has one answer to asked ids.
+pub fn asked_is_unique()
+    ensures { AskedIsUnique }
+{}
+
+/// Each sound state has an answer to asked ids, where its settings lie in their ranges.
+#[tactic(auto, using(crate::proofs::AskedExists::asked_exists))]
+pub fn asked_exists()
+    ensures { AskedExists }
 {
     maximal_tracks_exist();
 }

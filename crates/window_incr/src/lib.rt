@@ -1,12 +1,16 @@
 //! The linker of a window of nights: it holds exposures, keeps a night with its tracklets for each
 //! night with held exposures, and answers with the tracklets of a night, the report of all maximal
-//! tracks, and statistics.
+//! tracks, what asked detections are, and statistics.
 #![tactic(auto)]
 
-pub use laws::{report_exists, report_follows, report_is_unique, stats_are_unique, stats_exist};
+pub use laws::{
+    asked_exists, asked_is_unique, report_exists, report_follows, report_is_unique,
+    stats_are_unique, stats_exist,
+};
 pub use state::Linker;
 
 mod answers;
+mod asking;
 mod laws;
 mod listing;
 mod state;

@@ -8,9 +8,9 @@ ghost use Rattle.window_incr.specs.Answers.{IsReportList, set_cmp};
 ghost use Rattle.kept_nights.specs.KeptNights.{nights_of};
 ghost use Rattle.window_incr.specs.Soundness.{IsSoundState};
 
+use closed_tracks::maximal_tracks;
 use exposure_log::ExposureLog;
 use night_tree::Night;
-use plain_tracks::maximal_tracks;
 use sky_units::{NoMemory, Settings, Spot, TrackSet, Tracklet};
 use std::alloc::Global;
 use std::cmp::Ordering;

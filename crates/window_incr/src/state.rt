@@ -1,26 +1,30 @@
 //! The linker's state and its calls.
-ghost use Rattle.std.specs.Prelude.{◌≡◌, ◌≢◌, ◌≤◌, pos, None, Some, Ok, Err, [], length, map, IfOk, IfErr, OnOk, OnErr};
+ghost use Rattle.std.specs.Prelude.{◌≡◌, ◌≢◌, ◌≤◌, ◌<◌, ◌^◌, pos, None, Some, Ok, Err, [], length, map, IfOk, IfErr, OnOk, OnErr};
 ghost use Rattle.std.specs.List.{sum_by};
 ghost use Rattle.sky_units.specs.Limits.{most_nights, IsNear};
 ghost use Rattle.sky_units.specs.SettingNames.{set_named};
 ghost use Rattle.exposure_log.specs.Held.{TakesIn, IsAnsweredAs, refusal, window_refusal, moved};
-ghost use Rattle.exposure_log.specs.HandedBack.{IsHandedBack};
 ghost use Rattle.exposure_log.specs.Outcomes.{HoldsAll};
 ghost use Rattle.exposure_log.specs.declared.errors.AddError.TheVariants.{NoMemory as no_memory};
+ghost use Rattle.sky_units.specs.declared.ask_errors.AskError.TheVariants.{NoMemory as out_of_memory};
 ghost use Rattle.night_tree.specs.Nights.{tracklets_of_each};
 ghost use Rattle.window_incr.specs.Answers.{tracklet_ids, IsReport, AreStats};
+ghost use Rattle.window_incr.specs.Asked.{IsAsked};
 ghost use Rattle.kept_nights.specs.KeptNights.{nights_of};
 ghost use Rattle.window_incr.specs.LinkerState.{LinkerData, after_setting};
 ghost use Rattle.window_incr.specs.Soundness.{IsSoundLinker};
 ghost use Rattle.miti_text.specs.ValidReports.{IsValidReport};
 
 use crate::answers::{groups_of, tracks_of};
+use crate::asking::asked;
 use crate::listing::listed;
-use exposure_log::{AddError, Exposure, ExposureLog, NotHeld, Outcome, WindowError, hold_all};
+use closed_tracks::maximal_tracks;
+use exposure_log::{AddError, Exposure, ExposureLog, Outcome, WindowError, hold_all};
 use kept_nights::{forget_before, night_of_number, renew_all_or_remove, renew_or_remove};
 use night_tree::Night;
-use plain_tracks::maximal_tracks;
-use sky_units::{Groups, NoMemory, Report, SetError, Settings, Stats, Tally, Word};
+use sky_units::{
+    AskError, Asked, Groups, NoMemory, Report, SetError, Settings, Stats, Tally, Words,
+};
 use std::alloc::Global;
 use std::marker::Model;
 
@@ -143,40 +147,7 @@ impl Linker {
         Ok(count)
     }
 
-    /// Holds an exposure from now on, as `add` does, but the exposure itself and no copy of it. One
-    /// that is refused comes back whole.
-    pub fn hold(&mut self, exposure: Exposure, tally: &mut Tally) -> Result<u32, NotHeld>
-        ensures ok { IfOk result (λ count. (refusal self.old.state.log exposure ≡ None) ×
-            (count ≡ length exposure.detections) ×
-            TakesIn self.old.state.log self.new.state.log exposure ×
-            (self.new.state.settings ≡ self.old.state.settings)) }
-        ensures cause { IfErr result (λ error. IsHandedBack self.old.state.log exposure error) }
-        ensures err { OnErr result (self.new ≡ self.old) }
-        ensures kept { self.new.nights ≡ nights_of self.new.state }
-        ensures tally { tally.new ≡ tally.old }
-    {
-        let _ = self.log.window();
-        let alloc = self.alloc;
-        let settings = self.settings;
-        let epoch = exposure.epoch();
-        let Ok(site) = Word::new(alloc, exposure.site()) else {
-            return Err(NotHeld::NoMemory);
-        };
-        let count = self.log.hold(exposure)?;
-        match renew_or_remove(
-            &mut self.nights,
-            &mut self.log,
-            alloc,
-            &settings,
-            epoch,
-            site.bytes(),
-        ) {
-            Ok(()) => Ok(count),
-            Err(_) => Err(NotHeld::NoMemory),
-        }
-    }
-
-    /// Holds exposures one after another, each as `hold` does, and says what came of each (the
+    /// Holds exposures one after another, themselves and no copies, and says what came of each (the
     /// definition `HoldsAll`). Their nights are built anew when all are held, and no other: one
     /// build for all exposures of a night that follow one another. Where memory is wanting, nothing
     /// changes. No fit test is made.
@@ -243,6 +214,22 @@ impl Linker {
         )?;
         let tracks = tracks_of(self.alloc, &self.log, &self.settings, list.as_slice())?;
         Ok(Report { window, tracks })
+    }
+
+    /// What the detections of some ids are (the definition `IsAsked`): the first of its cases that
+    /// holds. A misfit has a certificate for each axis that doesn't admit them, and for no other.
+    pub fn ask(&self, ids: &Words) -> Result<Asked, AskError>
+        requires few { length ids.now < 2 ^ 32 }
+        ensures { result ≢ Err out_of_memory → IsAsked self.now.state ids.now result }
+    {
+        let _ = self.log.window();
+        asked(
+            self.alloc,
+            &self.log,
+            self.nights.as_slice(),
+            &self.settings,
+            ids.items(),
+        )
     }
 
     /// The ids of each tracklet of a night, in the order of the tracklets. There are none for a

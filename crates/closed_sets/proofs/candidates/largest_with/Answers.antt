@@ -12,37 +12,12 @@ first_largest Fits law set other grown x e t u =
     let v : IsUnion set (x ∷ []) grown = subst (λ (o : List ℕ). IsUnion set o grown) e u in
     largest_whole Fits law set (x ∷ []) grown v ((one_more Fits law set grown x v).1 t)
 
-pub returns-then-branch-clause-largest : goal.returns-then-branch-clause-largest
-returns-then-branch-clause-largest g c =
-    let fits = g.F.Family.Fits c.args.family.now in
-    let law = g.met.F.Family.hereditary c.args.family.now in
-    let one : c.as_slice.result.now ≡ c.args.first ∷ [] = search rules in
-    let first = first_largest fits law c.args.set.now c.as_slice.result.now c.in_ok-grown.grown.items c.args.first one c.requires c.in_ok-grown.ensures in
-    let union : IsUnion c.in_ok-grown.grown.items c.args.rest.now c.in_ok-whole.whole.items = subst (λ (o : List ℕ). IsUnion o c.args.rest.now c.in_ok-whole.whole.items) c.as_slice-2.ensures.value c.in_ok-whole.ensures in
-    largest_cons fits c.args.set.now c.args.rest.now (c.args.first ∷ c.args.rest.now) c.in_ok-grown.grown.items c.in_ok-whole.whole.items c.args.first refl first
-    (largest_whole fits law c.in_ok-grown.grown.items c.args.rest.now c.in_ok-whole.whole.items union (subst fits c.as_slice-3.ensures.value (c.in_ok-fits.ensures.fits.0 c.if-branch.true)))
-
-pub enlarged-requires : goal.enlarged-requires
-enlarged-requires g c =
+pub largest_beside-requires : goal.largest_beside-requires
+largest_beside-requires g c =
     let fits = g.F.Family.Fits c.args.family.now in
     let law = g.met.F.Family.hereditary c.args.family.now in
     let one : c.as_slice.result.now ≡ c.args.first ∷ [] = search rules in
     (first_largest fits law c.args.set.now c.as_slice.result.now c.in_ok-grown.grown.items c.args.first one c.requires c.in_ok-grown.ensures).fits
-
-pub enlarged-requires-2 : goal.enlarged-requires-2
-enlarged-requires-2 g c =
-    let fits = g.F.Family.Fits c.args.family.now in
-    let law = g.met.F.Family.hereditary c.args.family.now in
-    let one : c.as_slice.result.now ≡ c.args.first ∷ [] = search rules in
-    (first_largest fits law c.args.set.now c.as_slice.result.now c.in_ok-grown.grown.items c.args.first one c.requires c.in_ok-grown.ensures).fits
-
-pub returns-then-rest-lt2-clause-largest : goal.returns-then-rest-lt2-clause-largest
-returns-then-rest-lt2-clause-largest g c =
-    let fits = g.F.Family.Fits c.args.family.now in
-    let law = g.met.F.Family.hereditary c.args.family.now in
-    let one : c.as_slice.result.now ≡ c.args.first ∷ [] = search rules in
-    let first = first_largest fits law c.args.set.now c.as_slice.result.now c.in_ok-grown.grown.items c.args.first one c.requires c.in_ok-grown.ensures in
-    if_ok _ _ c.enlarged.result (λ largest l. largest_cons fits c.args.set.now c.args.rest.now (c.args.first ∷ c.args.rest.now) c.in_ok-grown.grown.items largest.items c.args.first refl first l) c.enlarged.ensures.largest
 
 pub returns-clause-largest : goal.returns-clause-largest
 returns-clause-largest g c =
@@ -50,4 +25,4 @@ returns-clause-largest g c =
     let law = g.met.F.Family.hereditary c.args.family.now in
     let one : c.as_slice.result.now ≡ c.args.first ∷ [] = search rules in
     let first = first_largest fits law c.args.set.now c.as_slice.result.now c.in_ok-grown.grown.items c.args.first one c.requires c.in_ok-grown.ensures in
-    if_ok _ _ c.enlarged-2.result (λ largest l. largest_cons fits c.args.set.now c.args.rest.now (c.args.first ∷ c.args.rest.now) c.in_ok-grown.grown.items largest.items c.args.first refl first l) c.enlarged-2.ensures.largest
+    if_ok _ _ c.largest_beside.result (λ largest l. largest_cons fits c.args.set.now c.args.rest.now (c.args.first ∷ c.args.rest.now) c.in_ok-grown.grown.items largest.items c.args.first refl first l) c.largest_beside.ensures.largest

@@ -1,4 +1,4 @@
-use Rattle.std.proofs.Common.{ℕ, ◌*◌, ◌≤◌, length, map, take}
+use Rattle.std.proofs.Common.{ℕ, ◌≤◌, length, map, take}
 use Rattle.closed_sets.specs.Counting.{IsPaid}
 use Rattle.closed_sets.specs.Search.{Gains, IsClosedFrom, IsGrown}
 use Rattle.closed_sets.proofs.search.+explore.Given as goal
@@ -12,7 +12,7 @@ invariant-loop-place g l = record {
   low : l.node.others.first ≤ l.place;
   high : l.place ≤ l.rest.first;
   gains : Gains (IsClosedFrom (g.F.Family.Fits l.family) l.node.set.items (take l.place l.rest.numbers.items)) (map (λ set. set.items) l.fn.found.items) (map (λ set. set.items) l.found.items);
-  paid : (size : ℕ) → length l.node.others.numbers.items ≤ size → IsPaid (IsGrown (g.F.Family.Fits l.family) l.node.set.items (take l.place l.rest.numbers.items)) (2 * size) size l.fn.tally.tests l.tally.tests;
+  paid : (size : ℕ) → length l.node.others.numbers.items ≤ size → IsPaid (IsGrown (g.F.Family.Fits l.family) l.node.set.items (take l.place l.rest.numbers.items)) size 0 l.fn.tally.tests l.tally.tests;
 }
 
 abbrev pub decreases-loop-place : goal.decreases-loop-place

@@ -1,6 +1,8 @@
 use Rattle.std.proofs.Common.{◌≡◌, ℕ, ◌+◌, ◌-◌, List, [], ◌∷◌, ◌++◌, length, take, drop, get_or, subst, rules}
 use Rattle.closed_sets.specs.Search.{AreFitting, IsBranch, IsUnion}
+use Rattle.std.proofs.lemmas.List.Elements.{Contains-get_or}
 use Rattle.closed_sets.proofs.Branches.{branch}
+use Rattle.closed_sets.proofs.Fitting.{others_beside}
 use Rattle.closed_sets.proofs.Nodes.{to_the_end}
 use Rattle.closed_sets.proofs.search.branch_at.Goals as goal
 
@@ -18,4 +20,5 @@ returns-clause-branch g c =
     let numbers : c.extend_from_slice.new.self.items ≡ excluded ++ candidates = search rules in
     let first : length excluded ≡ c.len-first.result = search rules in
     subst (λ (n : ℕ). IsBranch fits c.args.set.now (take c.args.place c.args.others.now) item grown c.extend_from_slice.new.self.items n) first
-    (branch fits (g.met.F.Family.hereditary c.args.family.now) c.args.set.now c.args.others.now c.requires.others c.args.place c.requires.place grown excluded candidates c.extend_from_slice.new.self.items union before after numbers)
+    (branch fits (g.met.F.Family.hereditary c.args.family.now) c.args.set.now c.args.others.now (others_beside fits c.args.set.now c.args.others.now c.requires.others) c.args.place c.requires.place grown excluded candidates c.extend_from_slice.new.self.items
+    ((c.requires.others.exactly item).0 (Contains-get_or c.args.others.now c.args.place 0 c.requires.place)).1 union before after numbers)

@@ -13,7 +13,7 @@ returns-clause-replies c =
       window = c.in_ok-window.window;
       between = c.set_window.new.linker.state;
       set = simp to_z-of_z at c.in_ok-window.ensures.reply;
-      delivered = c.in_ok-replies.replies.items;
-      delivery = c.in_ok-replies.ensures.replies;
-      given_is = c.in_ok-insert.ensures.items;
+      delivered = c.in_ok-delivered.delivered.items;
+      delivery = c.in_ok-delivered.ensures.replies;
+      given_is = rw c.in_ok-replies.ensures at c.in_ok-append.ensures.items;
     })

@@ -33,7 +33,7 @@ joined-requires c =
 pub returns-clause-fits : goal.returns-clause-fits
 returns-clause-fits c =
     let seats : AreSeatsOf c.self.inside.nights.now c.args.set.now c.in-Some.seats.items = rw c.in-Some.is at c.in_ok-seats.ensures in
-    let there = fits_there c.self.inside.settings.now c.self.inside.nights.now c.self.inside.table.now c.args.set.now c.in-Some.seats.items c.self.invariant c.requires seats in
+    let there = fits_there c.self.inside.settings.now c.self.inside.nights.now c.self.inside.table.now c.args.set.now c.in-Some.seats.items c.self.invariant.0 c.requires seats in
     let spots : c.as_slice-2.result.now ≡ spots_of (tracklets_at c.self.inside.nights.now c.in-Some.seats.items) = c.as_slice-2.ensures.value ∙ (c.in_ok-spots.ensures ∙ ap (λ (list : List Seat). spots_of (tracklets_at c.self.inside.nights.now list)) c.as_slice.ensures.value) in
     let test : IsTrue c.is_fitting_arc.result ↔ (IsArc (spots_of (tracklets_at c.self.inside.nights.now c.in-Some.seats.items)) × Fits c.self.inside.settings.now (spots_of (tracklets_at c.self.inside.nights.now c.in-Some.seats.items))) =
     subst (λ (list : List SpotData). IsTrue c.is_fitting_arc.result ↔ (IsArc list × Fits c.self.inside.settings.now list)) spots c.is_fitting_arc.ensures.fits in

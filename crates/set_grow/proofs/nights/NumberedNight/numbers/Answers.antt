@@ -6,4 +6,4 @@ use Rattle.set_grow.proofs.nights.NumberedNight.numbers.Goals as goal
 
 pub returns : goal.returns
 returns c =
-    c.as_slice.ensures.value ∙ (sym (numbers_are c.self.inside.numbers.items c.self.inside.night.tracklets c.self.invariant) ∙ ap (λ (n : NumberedNightData). numbers_in n.tracklets) c.self.view_is)
+    sym (numbers_are c.self.inside.numbers.now c.self.inside.night.now.tracklets c.self.invariant) ∙ ap (λ (n : NumberedNightData). numbers_in n.tracklets) c.self.view_is

@@ -6,4 +6,4 @@ use Rattle.set_grow.proofs.nights.NumberedNight.tracklets.Goals as goal
 
 pub returns : goal.returns
 returns c =
-    c.tracklets.ensures ∙ (sym (tracklets_are c.self.inside.numbers.items c.self.inside.night.tracklets c.self.invariant) ∙ ap (λ (n : NumberedNightData). without_numbers n.tracklets) c.self.view_is)
+    c.tracklets.ensures ∙ (sym (tracklets_are c.self.inside.numbers.now c.self.inside.night.now.tracklets c.self.invariant) ∙ ap (λ (n : NumberedNightData). without_numbers n.tracklets) c.self.view_is)

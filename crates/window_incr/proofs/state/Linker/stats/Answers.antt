@@ -4,15 +4,26 @@ use Rattle.sky_units.specs.TrackletData.{NightTracklets}
 use Rattle.sky_units.specs.Tracks.{AreMaximalTracks, AreNights}
 use Rattle.night_tree.specs.Nights.{NightData, tracklets_of_each}
 use Rattle.window_incr.specs.LinkerState.{LinkerState}
+use Rattle.kept_nights.specs.KeptNights.{RiseByNumber}
+use Rattle.kept_nights.proofs.DifferentTracklets.{HaveEachOnce, each_once}
 use Rattle.kept_nights.proofs.HeldNights.{in_order_follow}
+use Rattle.kept_nights.proofs.KeptNights.{numbers_rise}
 use Rattle.window_incr.proofs.ReportLists.{some_listed}
 use Rattle.window_incr.proofs.Valid.{few_kept}
 use Rattle.window_incr.proofs.state.Linker.stats.Goals as goal
 
-pub maximal_tracks-requires : goal.maximal_tracks-requires
-maximal_tracks-requires c =
+pub maximal_tracks-requires-clause-follow : goal.maximal_tracks-requires-clause-follow
+maximal_tracks-requires-clause-follow c =
     let s : LinkerState = record { settings = c.self.inside.settings; log = c.self.inside.log } in
     subst AreNights (sym (ap tracklets_of_each (c.as_slice.ensures.value ∙ c.self.invariant.2))) (in_order_follow s c.window.ensures.orderly)
+
+pub maximal_tracks-requires-clause-rising : goal.maximal_tracks-requires-clause-rising
+maximal_tracks-requires-clause-rising c = subst RiseByNumber (sym (c.as_slice.ensures.value ∙ c.self.invariant.2)) (numbers_rise (record { settings = c.self.inside.settings; log = c.self.inside.log }))
+
+pub maximal_tracks-requires-clause-different : goal.maximal_tracks-requires-clause-different
+maximal_tracks-requires-clause-different c =
+    let s : LinkerState = record { settings = c.self.inside.settings; log = c.self.inside.log } in
+    subst HaveEachOnce (sym (ap tracklets_of_each (c.as_slice.ensures.value ∙ c.self.invariant.2))) (each_once s c.window.ensures.orderly)
 
 pub tracklet_count-requires : goal.tracklet_count-requires
 tracklet_count-requires c =

@@ -1,0 +1,13 @@
+use Rattle.std.proofs.Common.{append_assoc, codes}
+use Rattle.track_report.specs.AskedText.{ask_error_words}
+use Rattle.track_report.proofs.Joined.{join_spaced}
+use Rattle.track_report.proofs.asking.write_ask_refused.Goals as goal
+
+pub returns : goal.returns
+returns c =
+    rw (
+      c.in_ok-push.ensures.items,
+      c.in_ok-write_error.ensures,
+      c.in_ok-extend_from_slice.ensures.items,
+      join_spaced (codes "refused") (ask_error_words c.args.ids.now c.args.error),
+    ) (simp append_assoc)
