@@ -1,6 +1,10 @@
+pub mod Apart
 pub mod Counted
 pub mod Cuts
 pub mod FiveAxes
+pub mod LedAs
+pub mod Meetings
+pub mod NightSpans
 pub mod OwnBoxes
 pub mod Quotients
 pub mod Saturated

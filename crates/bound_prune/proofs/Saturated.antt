@@ -1,7 +1,7 @@
 -- Sums and differences that are cut at the ends of the machine's numbers, where what they decide is decided far from these ends.
-use Rattle.std.proofs.Common.{◌≡◌, ℕ, ◌-◌, ◌^◌, ◌↔◌, min, w64, ap, ◌∙◌, refl, arith}
+use Rattle.std.proofs.Common.{◌≡◌, ℕ, ◌-◌, ◌^◌, ◌↔◌, min, w64, ap, ◌∙◌, arith}
 use Rattle.std.specs.Prelude.{ℤ, pos, negsuc, neg_ℤ, ◌+ℤ◌, ◌-ℤ◌, ◌*ℤ◌, ◌≤ℤ◌, ◌<ℤ◌}
-use Rattle.std.specs.Int.{int_min, int_max, saturate_signed}
+use Rattle.std.specs.Int.{int_max, saturate_signed}
 use Rattle.std.proofs.lemmas.Int.{ints, clamps, by_lt_z}
 use mathlib.Core.Logic.{inl, inr}
 use borrow.Author.Differences.{same_in, product_is}
@@ -29,24 +29,6 @@ cut_high (negsuc n) h = absurd (omega (arith, ints))
 cut_low : (z : ℤ) → z <ℤ bottom → saturate_signed w64 z ≡ bottom
 cut_low (pos n) h = absurd (omega (arith, ints))
 cut_low (negsuc n) h = let e : min n (2 ^ 63 - 1) ≡ 9223372036854775807 = omega (arith, ints) in ap (λ (m : ℕ). negsuc m) e
-
--- a cut number is as good within a small range
-clamped : (least most z : ℤ) → bottom ≤ℤ least → least ≤ℤ most → most ≤ℤ top → int_max least (int_min (saturate_signed w64 z) most) ≡ int_max least (int_min z most)
-clamped least most z h j k = by_lt_z z bottom
-    (λ (low : z <ℤ bottom). let e = cut_low z low in rw e (below least most z h j low))
-    (λ (no_less : bottom ≤ℤ z). by_lt_z top z
-    (λ (high : top <ℤ z). let e = cut_high z high in rw e (beyond least most z j k high))
-    (λ (no_more : z ≤ℤ top). let e = cut_same z no_less no_more in rw e refl))
-  where
-    below : (least most z : ℤ) → bottom ≤ℤ least → least ≤ℤ most → z <ℤ bottom → int_max least (int_min bottom most) ≡ int_max least (int_min z most)
-    below least most z h j low = omega (arith, ints, clamps)
-
-    beyond : (least most z : ℤ) → least ≤ℤ most → most ≤ℤ top → top <ℤ z → int_max least (int_min top most) ≡ int_max least (int_min z most)
-    beyond least most z j k high = omega (arith, ints, clamps)
-
-pub kept_cut : (least most z : ℤ) → bottom ≤ℤ least → least ≤ℤ most → most ≤ℤ top → int_max least (int_min (saturate_signed w64 z) most) ≡ kept_within least most z
-unfolding kept_within
-kept_cut least most z h j k = clamped least most z h j k
 
 pub kept_range : (least most z : ℤ) → least ≤ℤ most → IsBetween least most (kept_within least most z)
 unfolding kept_within

@@ -17,14 +17,14 @@ use Rattle.bound_prune.specs.declared.times.Times.{Times}
 use Rattle.bound_prune.specs.declared.travel.Travel.{Travel}
 use Rattle.bound_prune.proofs.Cuts.{kept_same, way_is}
 
-ahead_is : (axis : Axis) (settings : SettingsData) (a b : Bounds) (times : Times) (travel : Travel) → AreTimes a b times → IsTravel axis settings (rates_in axis a) (rates_in axis b) times travel → travel.ahead ≡ way_ahead axis settings a b
+pub ahead_is : (axis : Axis) (settings : SettingsData) (a b : Bounds) (times : Times) (travel : Travel) → AreTimes a b times → IsTravel axis settings (rates_in axis a) (rates_in axis b) times travel → travel.ahead ≡ way_ahead axis settings a b
 ahead_is axis settings a b times travel t w =
     let lasts = t.lasting_is in
     let short = t.shortest_is in
     let long = t.longest_is in
     (rw (lasts, short, long) at w.ahead) ∙ way_is (ahead_with axis (gained_in axis settings (lasting a +ℤ lasting b)) a b) a b
 
-back_is : (axis : Axis) (settings : SettingsData) (a b : Bounds) (times : Times) (travel : Travel) → AreTimes a b times → IsTravel axis settings (rates_in axis a) (rates_in axis b) times travel → travel.back ≡ way_back axis settings a b
+pub back_is : (axis : Axis) (settings : SettingsData) (a b : Bounds) (times : Times) (travel : Travel) → AreTimes a b times → IsTravel axis settings (rates_in axis a) (rates_in axis b) times travel → travel.back ≡ way_back axis settings a b
 back_is axis settings a b times travel t w =
     let lasts = t.lasting_is in
     let short = t.shortest_is in
@@ -44,7 +44,7 @@ turned (inl p) = inr p
 turned (inr q) = inl q
 
 -- ---- declination
-dec_apart : (a b : ℤ) → IsBetween (neg_ℤ (pos 90000000)) (pos 90000000) a → IsBetween (neg_ℤ (pos 90000000)) (pos 90000000) b → kept_within (neg_ℤ two_turns) two_turns (b -ℤ a) ≡ b -ℤ a
+pub dec_apart : (a b : ℤ) → IsBetween (neg_ℤ (pos 90000000)) (pos 90000000) a → IsBetween (neg_ℤ (pos 90000000)) (pos 90000000) b → kept_within (neg_ℤ two_turns) two_turns (b -ℤ a) ≡ b -ℤ a
 dec_apart a b p q =
     let af = p.from in
     let at = p.to in

@@ -5,8 +5,11 @@ pub mod Decided
 pub mod EndsData
 pub mod FourSpots
 pub mod Lossless
+pub mod Meets
 pub mod Motions
 pub mod Pruning
 pub mod Rounding
+pub mod SpanData
+pub mod Spans
 pub mod Times
 pub mod Wanted

@@ -118,7 +118,7 @@ fn times_between(a: &TrackletEnds, b: &TrackletEnds) -> Times
 }
 
 /// How long a tracklet lasts, in ticks, or the most that an arc lasts.
-fn lasting(a: &TrackletEnds) -> i64
+pub fn lasting(a: &TrackletEnds) -> i64
     ensures value { result ≡ lasting_of (bounds_of a.now) }
     ensures range { IsBetween (pos 0) (pos 29999999) result }
 {

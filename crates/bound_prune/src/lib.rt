@@ -7,13 +7,16 @@
 pub use boxes::TrackletBox;
 pub use ends::TrackletEnds;
 pub use pruning::{PairPrune, TriplePrune};
+pub use spans::{DecRange, NightSpan};
 
 mod boxes;
 mod ends;
 mod fitting;
 mod following;
+mod meeting;
 mod pruning;
 mod rates;
+mod spans;
 #[cfg(test)]
 mod tests;
 mod times;

@@ -5,7 +5,7 @@ ghost use Rattle.sky_units.specs.Motion.{acceleration as acceleration_on};
 ghost use Rattle.sky_units.specs.Ranges.{IsBetween};
 ghost use Rattle.bound_prune.specs.BoxEnds.{AreRates, DifferLittle, rates_in};
 ghost use Rattle.bound_prune.specs.Boxes.{floor_of, ceiling_of};
-ghost use Rattle.bound_prune.specs.EndsData.{AreUsual};
+ghost use Rattle.bound_prune.specs.EndsData.{AreUsual, IsUsualRate};
 ghost use Rattle.bound_prune.specs.Bounds.{RatesAgree, longest as longest_of, rate_axis as rate_axis_of};
 
 use box_tree::Bounds;
@@ -13,6 +13,9 @@ use sky_units::{Axis, Settings, Spot, offset};
 
 /// The ticks of a day, over which rates are counted.
 const TICKS_PER_DAY: i64 = 1_000_000;
+
+/// No mean rate of a tracklet is greater, in 10^-6 degree per day.
+const MOST_RATE: i64 = 1_000_000_000_000_000;
 
 /// No two rates that agree differ by so much, in 10^-6 degree per day.
 const FAR_APART: i64 = 100_000_000;
@@ -96,7 +99,7 @@ pub fn rates_agree(axis: Axis, settings: &Settings, a: &Bounds, b: &Bounds, long
 }
 
 /// The rates of a box on an axis of the sky.
-fn rates_on(axis: Axis, a: &Bounds) -> Rates
+pub fn rates_on(axis: Axis, a: &Bounds) -> Rates
     ensures { result ≡ rates_in axis a.now }
 {
     let rate = rate_axis(axis);
@@ -104,6 +107,26 @@ fn rates_on(axis: Axis, a: &Bounds) -> Rates
         least: a.low[rate],
         greatest: a.high[rate],
     }
+}
+
+/// Whether no rate is greater than a tracklet's may be.
+pub fn are_usual(rates: Rates) -> bool
+    ensures { IsTrue result ↔ AreUsual rates }
+{
+    if !is_usual(rates.least) {
+        return false;
+    }
+    is_usual(rates.greatest)
+}
+
+/// Whether a rate is no greater than a tracklet's may be.
+fn is_usual(rate: i64) -> bool
+    ensures { IsTrue result ↔ IsUsualRate rate }
+{
+    if rate < -MOST_RATE {
+        return false;
+    }
+    rate <= MOST_RATE
 }
 
 /// Whether rates differ by no more than the acceleration allows over some time.

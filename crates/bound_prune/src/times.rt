@@ -1,6 +1,6 @@
 //! How long it may take from what lies in one box to what lies in a later one.
 
-ghost use Rattle.std.specs.Prelude.{◌≡◌, pos, ◌-ℤ◌};
+ghost use Rattle.std.specs.Prelude.{◌≡◌, pos, ◌-ℤ◌, ◌≤ℤ◌};
 ghost use Rattle.sky_units.specs.Ranges.{IsBetween};
 ghost use Rattle.bound_prune.specs.Bounds.{lasting as lasting_of, kept_within};
 ghost use Rattle.bound_prune.specs.Times.{AreTimes};
@@ -48,7 +48,24 @@ fn kept_difference(from: i64, to: i64, most: i64) -> i64
     ensures value { result ≡ kept_within (pos 0) most (to -ℤ from) }
     ensures range { IsBetween (pos 0) most result }
 {
-    to.saturating_sub(from).clamp(0, most)
+    if to <= from {
+        return 0;
+    }
+    kept_apart(from, to, most)
+}
+
+/// How far one number lies above another one, or `most` where it is farther.
+pub fn kept_apart(low: i64, high: i64, most: i64) -> i64
+    requires order { low ≤ℤ high }
+    requires most { IsBetween (pos 0) (pos 1000000000) most }
+    ensures value { result ≡ kept_within (pos 0) most (high -ℤ low) }
+    ensures range { IsBetween (pos 0) most result }
+{
+    // Unsigned, no two numbers are too far apart.
+    if high.abs_diff(low) >= most as u64 {
+        return most;
+    }
+    high - low
 }
 
 /// A time, or the end of the range from 0 to `most` that it lies beyond.

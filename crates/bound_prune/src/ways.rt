@@ -1,15 +1,15 @@
 //! Whether a way leads from what lies in one box to what lies in a later one.
 
-ghost use Rattle.std.specs.Prelude.{◌≡◌, ◌<◌, ◌↔◌, ◌⊎◌, ℤ, pos, neg_ℤ, negsuc, ◌-ℤ◌, ◌*ℤ◌, ◌≤ℤ◌, IsTrue};
+ghost use Rattle.std.specs.Prelude.{◌≡◌, ◌<◌, ◌↔◌, pos, neg_ℤ, ◌-ℤ◌, ◌*ℤ◌, IsTrue};
 ghost use Rattle.std.specs.Int.{int_max};
-ghost use Rattle.sky_units.specs.Motion.{tolerance as tolerance_on};
 ghost use Rattle.sky_units.specs.Ranges.{IsBetween};
 ghost use Rattle.sky_units.specs.declared.axis.Axis.TheVariants.{Ra as ra, Dec as dec};
-ghost use Rattle.bound_prune.specs.Bounds.{IsOpen, IsOpenRound, Reaches, ahead_with, back_with, gained_in, greatest_distance, kept_within, least_distance, place_axis as place_axis_of, two_turns, way_ahead, way_back};
-ghost use Rattle.bound_prune.specs.Times.{AreInOrder, AreTimes, StandsFor};
+ghost use Rattle.bound_prune.specs.Bounds.{IsOpen, IsOpenRound, ahead_with, back_with, gained_in, greatest_distance, kept_within, least_distance, place_axis as place_axis_of, two_turns, way_ahead, way_back};
+ghost use Rattle.bound_prune.specs.Times.{AreInOrder, AreTimes, LeadsAs, StandsFor};
 
-use crate::rates::{acceleration, rate_axis};
-use crate::times::Times;
+use crate::rates::{acceleration, are_usual, rate_axis, rates_on};
+use crate::times::{Times, kept_apart};
+use crate::travel::{Travel, farthest_ways, is_either_reached, is_reached};
 use box_tree::Bounds;
 use sky_units::{Axis, Settings};
 
@@ -26,10 +26,11 @@ pub fn is_open(settings: &Settings, a: &Bounds, b: &Bounds, times: &Times) -> bo
         (greatest_distance dec a.now b.now) (way_ahead dec settings.now a.now b.now)
         (way_back dec settings.now a.now b.now) }
 {
-    if !leads_ahead(Axis::Dec, settings, a, b, times, least(Axis::Dec, a, b)) {
+    let ways = ways_between(Axis::Dec, settings, a, b, times);
+    if !is_reached(settings.tol_dec, least(Axis::Dec, a, b), ways.ahead) {
         return false;
     }
-    leads_back(Axis::Dec, settings, a, b, times, -greatest(Axis::Dec, a, b))
+    is_reached(settings.tol_dec, -greatest(Axis::Dec, a, b), ways.back)
 }
 
 /// Whether some way in right ascension leads from one box to another, round the circle.
@@ -39,81 +40,47 @@ pub fn is_open_round(settings: &Settings, a: &Bounds, b: &Bounds, times: &Times)
         (greatest_distance ra a.now b.now) (way_ahead ra settings.now a.now b.now)
         (way_back ra settings.now a.now b.now) }
 {
+    let ways = ways_between(Axis::Ra, settings, a, b, times);
     let least = least(Axis::Ra, a, b);
     let greatest = greatest(Axis::Ra, a, b);
-    if !leads_either(settings, a, b, times, least, FULL_TURN - greatest) {
+    if !is_either_reached(settings.tol_ra, least, FULL_TURN - greatest, &ways) {
         return false;
     }
-    leads_either(settings, a, b, times, FULL_TURN + least, -greatest)
+    is_either_reached(settings.tol_ra, FULL_TURN + least, -greatest, &ways)
 }
 
-/// Whether a way in right ascension leads as far as one distance ahead, or as far as another one back.
-fn leads_either(
-    settings: &Settings,
-    a: &Bounds,
-    b: &Bounds,
-    times: &Times,
-    ahead: i64,
-    back: i64,
-) -> bool
-    requires times { AreTimes a.now b.now times.now }
-    requires ahead { IsBetween (negsuc 1079999999) (pos 1080000000) ahead }
-    requires back { IsBetween (negsuc 1079999999) (pos 1080000000) back }
-    ensures { IsTrue result ↔ (Reaches settings.now.tol_ra ahead (way_ahead ra settings.now a.now b.now) ⊎
-        Reaches settings.now.tol_ra back (way_back ra settings.now a.now b.now)) }
+/// The farthest ways on an axis from one box to another, or others that lead as far as any distance on the sky.
+#[inline(always)]
+fn ways_between(axis: Axis, settings: &Settings, a: &Bounds, b: &Bounds, times: &Times) -> Travel
+    requires { AreTimes a.now b.now times.now }
+    ensures ahead { LeadsAs (way_ahead axis settings.now a.now b.now) result.ahead }
+    ensures back { LeadsAs (way_back axis settings.now a.now b.now) result.back }
 {
-    if leads_ahead(Axis::Ra, settings, a, b, times, ahead) {
-        return true;
+    let from = rates_on(axis, a);
+    let to = rates_on(axis, b);
+    if !are_usual(from) {
+        return cut_ways(axis, settings, a, b, times);
     }
-    leads_back(Axis::Ra, settings, a, b, times, back)
+    if !are_usual(to) {
+        return cut_ways(axis, settings, a, b, times);
+    }
+    farthest_ways(axis, from, to, settings, times)
 }
 
-/// Whether a way ahead leads from within the tolerance of one place to within that of another.
-fn leads_ahead(
-    axis: Axis,
-    settings: &Settings,
-    a: &Bounds,
-    b: &Bounds,
-    times: &Times,
-    distance: i64,
-) -> bool
-    requires times { AreTimes a.now b.now times.now }
-    requires distance { IsBetween (negsuc 1079999999) (pos 1080000000) distance }
-    ensures { IsTrue result ↔ Reaches (tolerance_on axis settings.now) distance
-        (way_ahead axis settings.now a.now b.now) }
+/// The same of any boxes, with rates cut at the ends of the machine's numbers.
+#[cold]
+#[inline(never)]
+fn cut_ways(axis: Axis, settings: &Settings, a: &Bounds, b: &Bounds, times: &Times) -> Travel
+    requires { AreTimes a.now b.now times.now }
+    ensures ahead { LeadsAs (way_ahead axis settings.now a.now b.now) result.ahead }
+    ensures back { LeadsAs (way_back axis settings.now a.now b.now) result.back }
 {
     let gained = gained(axis, settings, times);
-    let rates = rates_ahead(axis, a, b, gained);
-    reaches(tolerance(axis, settings), distance, rates, times)
-}
-
-/// Whether a way back leads from within the tolerance of one place to within that of another.
-fn leads_back(
-    axis: Axis,
-    settings: &Settings,
-    a: &Bounds,
-    b: &Bounds,
-    times: &Times,
-    distance: i64,
-) -> bool
-    requires times { AreTimes a.now b.now times.now }
-    requires distance { IsBetween (negsuc 1079999999) (pos 1080000000) distance }
-    ensures { IsTrue result ↔ Reaches (tolerance_on axis settings.now) distance
-        (way_back axis settings.now a.now b.now) }
-{
-    let gained = gained(axis, settings, times);
-    let rates = rates_back(axis, a, b, gained);
-    reaches(tolerance(axis, settings), distance, rates, times)
-}
-
-/// The tolerance of an axis, in 10^-6 degree.
-fn tolerance(axis: Axis, settings: &Settings) -> i64
-    ensures value { result ≡ tolerance_on axis settings.now }
-    ensures range { IsBetween (pos 0) (pos 100000) result }
-{
-    match axis {
-        Axis::Ra => settings.tol_ra,
-        Axis::Dec => settings.tol_dec,
+    let ahead = rates_ahead(axis, a, b, gained);
+    let back = rates_back(axis, a, b, gained);
+    Travel {
+        ahead: farthest(ahead, times),
+        back: farthest(back, times),
     }
 }
 
@@ -180,19 +147,11 @@ fn distance(from: i64, to: i64) -> i64
     ensures value { result ≡ kept_within (neg_ℤ two_turns) two_turns (to -ℤ from) }
     ensures range { IsBetween (neg_ℤ two_turns) two_turns result }
 {
-    to.saturating_sub(from).clamp(-2 * FULL_TURN, 2 * FULL_TURN)
-}
-
-/// Whether two rates together lead over some time from within the tolerance of one place to within that of another.
-fn reaches(tol: i64, distance: i64, rates: i64, times: &Times) -> bool
-    requires tol { IsBetween (pos 0) (pos 100000) tol }
-    requires distance { IsBetween (negsuc 1079999999) (pos 1080000000) distance }
-    requires times { AreInOrder times.now }
-    ensures { (exact : ℤ) → StandsFor exact rates → IsTrue result ↔ Reaches tol distance
-        (int_max (exact *ℤ times.now.shortest) (exact *ℤ times.now.longest)) }
-{
-    let wanted = WAY_SCALE * (distance - (tol + tol));
-    wanted as i128 <= farthest(rates, times)
+    if from <= to {
+        kept_apart(from, to, 2 * FULL_TURN)
+    } else {
+        -kept_apart(to, from, 2 * FULL_TURN)
+    }
 }
 
 /// The farthest that rates lead over some of the times.

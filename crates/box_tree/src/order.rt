@@ -1,6 +1,8 @@
 //! The order in which a tree keeps its items: by the interleaved bits of their places on the axes.
 //!
-//! Each axis is scaled to the range of the items, so items that stand near each other lie on few runs.
+//! Each axis is scaled to the range of the items, so items that stand near each other lie on few runs. Only
+//! the axes count on which all items are points, if there are any: an item that is wide on an axis meets
+//! many others there wherever its run is cut.
 
 ghost use Rattle.std.specs.Prelude.{◌≡◌, ◌<◌, ◌≤◌, length, map, IfOk};
 ghost use Rattle.std.specs.List.Sorted.{IsPermutation};
@@ -19,6 +21,15 @@ pub struct Ordered {
     pub keyed: Vec<(u64, usize)>,
     /// The place of each item.
     pub places: Vec<usize>,
+}
+
+/// What the items say of the axes.
+#[derive(Clone, Copy)]
+struct Frame {
+    /// A box of all items.
+    bounds: Bounds,
+    /// The axes that count.
+    counts: [bool; 8],
 }
 
 /// The places of all items, each once, those near each other by and large together.
@@ -55,23 +66,60 @@ fn places_of(alloc: Global, keyed: &[(u64, usize)]) -> Result<Vec<usize>, NoMemo
     Ok(places)
 }
 
-/// The box of all items.
-fn frame_of<T: Located>(items: &[T]) -> Bounds {
-    let mut frame = no_bounds();
+/// The box of all items, and the axes that count.
+fn frame_of<T: Located>(items: &[T]) -> Frame {
+    let mut bounds = no_bounds();
+    let mut wide = [false; 8];
     for item in items {
-        frame = joined_bounds(&frame, &own_bounds(item));
+        let own = own_bounds(item);
+        bounds = joined_bounds(&bounds, &own);
+        mark_wide(&mut wide, &own);
     }
-    frame
+    Frame {
+        bounds,
+        counts: counting_axes(&wide, T::AXES),
+    }
 }
 
-/// The interleaved bits of where an item begins within the box of all items.
-fn key_of<T: Located>(item: &T, frame: &Bounds) -> u64 {
-    let own = own_bounds(item);
-    let mut scaled = [0; 8];
+/// Marks the axes on which a box is wider than a point.
+fn mark_wide(wide: &mut [bool; 8], own: &Bounds) {
     for axis in 0..MOST_AXES {
-        scaled[axis] = scaled_within(own.low[axis], frame.low[axis], frame.high[axis]);
+        wide[axis] |= own.low[axis] < own.high[axis];
     }
-    interleaved(&mut scaled, T::AXES)
+}
+
+/// Of the first `axes` axes those that are not wide, or all of these where each is wide.
+fn counting_axes(wide: &[bool; 8], axes: usize) -> [bool; 8] {
+    let points = narrow_axes(wide, axes);
+    if points == [false; 8] {
+        narrow_axes(&[false; 8], axes)
+    } else {
+        points
+    }
+}
+
+/// Of the first `axes` axes those that are not wide.
+fn narrow_axes(wide: &[bool; 8], axes: usize) -> [bool; 8] {
+    let mut narrow = [false; 8];
+    for axis in 0..MOST_AXES {
+        narrow[axis] = axis < axes && !wide[axis];
+    }
+    narrow
+}
+
+/// The interleaved bits of where an item begins within the box of all items, on the axes that count.
+fn key_of<T: Located>(item: &T, frame: &Frame) -> u64 {
+    let own = own_bounds(item);
+    let bounds = &frame.bounds;
+    let mut scaled = [0; 8];
+    let mut axes = 0;
+    for axis in 0..MOST_AXES {
+        if frame.counts[axis] {
+            scaled[axes] = scaled_within(own.low[axis], bounds.low[axis], bounds.high[axis]);
+            axes += 1;
+        }
+    }
+    interleaved(&mut scaled, axes)
 }
 
 /// How far a place lies behind the low end of a range, in a unit in which the whole range has 64 bits.

@@ -1,10 +1,11 @@
 //! The join of three trees.
 
 ghost use Rattle.std.specs.Prelude.{◌≡◌, ◌<◌, cond, [], ◌∷◌, length, IfOk, OnOk};
+ghost use Rattle.std.specs.List.{All};
 ghost use Rattle.box_tree.specs.Boxes.{own_box};
 ghost use Rattle.box_tree.specs.Counts.{Rises};
 ghost use Rattle.box_tree.specs.Joins.{Adds, InTriples, allow_own, at_three, count_triples, triples_that};
-ghost use Rattle.box_tree.specs.Nodes.{run};
+ghost use Rattle.box_tree.specs.Nodes.{Lies, run};
 ghost use Rattle.box_tree.specs.Trees.{HasNode, IsIndex};
 
 use crate::bounds::{Bounds, own_bounds};
@@ -99,7 +100,8 @@ fn join_roots<A: Located, B: Located, C: Located, P: Prune3<A, B, C>>(
     join_nodes(a, b, c, x, y, z, prune, found, tally)
 }
 
-/// Adds the wanted triples of the items of three nodes, in some order.
+/// Adds the wanted triples of the items of three nodes, in some order. The first two nodes are opened
+/// down to their items before the third is: most pairs of them are refused, and each only once.
 fn join_nodes<A: Located, B: Located, C: Located, P: Prune3<A, B, C>>(
     a: &Index<A>,
     b: &Index<B>,
@@ -128,21 +130,53 @@ fn join_nodes<A: Located, B: Located, C: Located, P: Prune3<A, B, C>>(
     if !prune.may(&x.bounds, &y.bounds, &z.bounds) {
         return Ok(());
     }
-    if weight_of(x) >= weight_of(y).max(weight_of(z)) {
+    if weight_of(x) >= weight_of(y) {
         if let Some((left, right)) = halves_of(a, x) {
             join_nodes(a, b, c, left, y, z, prune, found, tally)?;
             return join_nodes(a, b, c, right, y, z, prune, found, tally);
         }
     }
-    if weight_of(y) >= weight_of(z) {
-        if let Some((left, right)) = halves_of(b, y) {
-            join_nodes(a, b, c, x, left, z, prune, found, tally)?;
-            return join_nodes(a, b, c, x, right, z, prune, found, tally);
-        }
+    if let Some((left, right)) = halves_of(b, y) {
+        join_nodes(a, b, c, x, left, z, prune, found, tally)?;
+        return join_nodes(a, b, c, x, right, z, prune, found, tally);
     }
+    join_leaves(a, b, c, x, y, z, prune, found, tally)
+}
+
+/// Adds the wanted triples of the items of two nodes with those of a third one. As long as one half of the third
+/// is not allowed, the other half stands for it.
+fn join_leaves<A: Located, B: Located, C: Located, P: Prune3<A, B, C>>(
+    a: &Index<A>,
+    b: &Index<B>,
+    c: &Index<C>,
+    x: &Node,
+    y: &Node,
+    z: &Node,
+    prune: &P,
+    found: &mut Vec<(usize, usize, usize)>,
+    tally: &mut Tally,
+) -> Result<(), NoMemory>
+    requires x { HasNode A.AXES A.lows A.highs a.now x.now }
+    requires y { HasNode B.AXES B.lows B.highs b.now y.now }
+    requires z { HasNode C.AXES C.lows C.highs c.now z.now }
+    ensures adds { OnOk result (Adds
+        (at_three (P.wanted prune.now) a.now.items.items b.now.items.items c.now.items.items)
+        (InTriples (run a.now.order.items x.now) (run b.now.order.items y.now)
+        (run c.now.order.items z.now)) found.old.items found.new.items) }
+    ensures tests { Rises (count_triples
+        (at_three (allow_own
+        (P.allows prune.now) A.AXES A.lows A.highs B.AXES B.lows B.highs C.AXES C.lows C.highs)
+        a.now.items.items b.now.items.items c.now.items.items) (run a.now.order.items x.now)
+        (run b.now.order.items y.now)
+        (run c.now.order.items z.now)) tally.old.tests tally.new.tests }
+{
     if let Some((left, right)) = halves_of(c, z) {
-        join_nodes(a, b, c, x, y, left, prune, found, tally)?;
-        return join_nodes(a, b, c, x, y, right, prune, found, tally);
+        if !prune.may(&x.bounds, &y.bounds, &right.bounds) {
+            return join_leaves(a, b, c, x, y, left, prune, found, tally);
+        }
+        if !prune.may(&x.bounds, &y.bounds, &left.bounds) {
+            return join_leaves(a, b, c, x, y, right, prune, found, tally);
+        }
     }
     join_rows(a, b, c, x, y, z, prune, found, tally)
 }
@@ -213,14 +247,90 @@ fn join_row<A: Located, B: Located, C: Located, P: Prune3<A, B, C>>(
     }
     let others = run_of(b, y);
     for other in others {
-        join_pair(a, b, c, place, *other, z, prune, found, tally)?;
+        let partners_own = own_bounds(&b.items[*other]);
+        join_pair(
+            a,
+            b,
+            c,
+            place,
+            *other,
+            &own,
+            &partners_own,
+            z,
+            prune,
+            found,
+            tally,
+        )?;
     }
     Ok(())
 }
 
-/// Adds the wanted triples of two items with those of a node. Where their own boxes and that of the node
-/// are not allowed, there are none.
+/// Adds the wanted triples of two items with those of a node, in some order. Where their boxes and that
+/// of the node are not allowed, there are none.
 fn join_pair<A: Located, B: Located, C: Located, P: Prune3<A, B, C>>(
+    a: &Index<A>,
+    b: &Index<B>,
+    c: &Index<C>,
+    place: usize,
+    other: usize,
+    own: &Bounds,
+    partners_own: &Bounds,
+    z: &Node,
+    prune: &P,
+    found: &mut Vec<(usize, usize, usize)>,
+    tally: &mut Tally,
+) -> Result<(), NoMemory>
+    requires place { place < length a.now.items.items }
+    requires other { other < length b.now.items.items }
+    requires own { All (λ place. Lies A.AXES A.lows A.highs a.now.items.items place own.now) (place ∷ []) }
+    requires partners_own { All (λ place. Lies B.AXES B.lows B.highs b.now.items.items place partners_own.now) (other ∷ []) }
+    requires z { HasNode C.AXES C.lows C.highs c.now z.now }
+    ensures adds { OnOk result (Adds
+        (at_three (P.wanted prune.now) a.now.items.items b.now.items.items c.now.items.items)
+        (InTriples (place ∷ []) (other ∷ [])
+        (run c.now.order.items z.now)) found.old.items found.new.items) }
+    ensures tests { Rises (count_triples
+        (at_three (allow_own
+        (P.allows prune.now) A.AXES A.lows A.highs B.AXES B.lows B.highs C.AXES C.lows C.highs)
+        a.now.items.items b.now.items.items c.now.items.items) (place ∷ []) (other ∷ [])
+        (run c.now.order.items z.now)) tally.old.tests tally.new.tests }
+{
+    if !prune.may(own, partners_own, &z.bounds) {
+        return Ok(());
+    }
+    if let Some((left, right)) = halves_of(c, z) {
+        join_pair(
+            a,
+            b,
+            c,
+            place,
+            other,
+            own,
+            partners_own,
+            left,
+            prune,
+            found,
+            tally,
+        )?;
+        return join_pair(
+            a,
+            b,
+            c,
+            place,
+            other,
+            own,
+            partners_own,
+            right,
+            prune,
+            found,
+            tally,
+        );
+    }
+    join_thirds(a, b, c, place, other, z, prune, found, tally)
+}
+
+/// Adds the wanted triples of two items with each of a node.
+fn join_thirds<A: Located, B: Located, C: Located, P: Prune3<A, B, C>>(
     a: &Index<A>,
     b: &Index<B>,
     c: &Index<C>,
@@ -248,9 +358,6 @@ fn join_pair<A: Located, B: Located, C: Located, P: Prune3<A, B, C>>(
     let partner = &b.items[other];
     let own = own_bounds(item);
     let partners_own = own_bounds(partner);
-    if !prune.may(&own, &partners_own, &z.bounds) {
-        return Ok(());
-    }
     let thirds = run_of(c, z);
     for third in thirds {
         let wanted = wants_all(

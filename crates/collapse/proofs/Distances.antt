@@ -1,15 +1,16 @@
 -- A group and a pair that are too far apart lie on no line.
-use Rattle.std.proofs.Common.{◌≡◌, ℕ, ◌+◌, ◌<◌, ◌≤◌, ℤ, pos, neg_ℤ, ◌+ℤ◌, ◌-ℤ◌, ◌*ℤ◌, ◌≤ℤ◌, true, false, List, length, get_or, sym, ap, ◌∙◌, arith}
+use Rattle.std.proofs.Common.{◌≡◌, ℕ, ◌+◌, ◌<◌, ◌≤◌, ℤ, pos, neg_ℤ, ◌+ℤ◌, ◌-ℤ◌, ◌*ℤ◌, ◌≤ℤ◌, Bool, true, false, ◌&&◌, List, length, get_or, refl, sym, ap, ◌∙◌, arith}
 use Rattle.std.specs.Int.RustNames.{unsigned_abs}
-use Rattle.std.specs.Int.Signed.{le_z}
+use Rattle.std.specs.Int.Signed.{le_z, lt_z}
 use Rattle.std.specs.List.{Contains}
 use Rattle.std.proofs.lemmas.Bool.{cases_Bool, cases_order, false≢true}
 use Rattle.std.proofs.lemmas.Int.{ints}
-use Rattle.std.proofs.lemmas.List.{get_or_read}
+use Rattle.std.proofs.lemmas.List.{get_or_default, get_or_read}
 use mathlib.Core.Logic.{inl, inr}
 use Rattle.line_fit.proofs.Pieces.{AreInReach, in_reach}
 use Rattle.line_fit.proofs.Twos.{and_of}
 use Rattle.sky_units.proofs.EpochOrder.{test_of_lt}
+use Rattle.sky_units.specs.Pairs.{EpochsDontFall}
 use Rattle.sky_units.specs.SettingsData.{SettingsData}
 use Rattle.sky_units.specs.SpotData.{SpotData}
 use Rattle.sky_units.proofs.SpotsAtPlaces.{spots_length}
@@ -60,6 +61,29 @@ no_reach_no_join settings spots group pair p x y below places among h ex ey far 
       let r' : are_in_reach settings x y ≡ true = rw (x', y') r in
       absurd (false≢true (sym far ∙ r'))
 ]
+
+pub rises : (spots : List SpotData) (i j : ℕ) (d : SpotData) → EpochsDontFall spots → i ≤ j → j < length spots → (get_or spots i d).epoch ≤ℤ (get_or spots j d).epoch
+rises spots i j d order h l = elim (cases_order i j) as (λ _. (get_or spots i d).epoch ≤ℤ (get_or spots j d).epoch) [
+  | inl e ↦ let same : (get_or spots i d).epoch ≡ (get_or spots j d).epoch = ap (λ (k : ℕ). (get_or spots k d).epoch) e in omega (arith, ints, same)
+  | inr (inl less) ↦ order i j d less l
+  | inr (inr more) ↦ absurd (omega arith)
+]
+
+-- the pair may join no group that has another place whose spot isn't earlier than the pair's first one
+pub late_no_join : (settings : SettingsData) (spots : List SpotData) (group : List ℕ) (pair : ℕ × ℕ) (p : ℕ) → IsPairBelow (length spots) pair → ArePlaces (length spots) group → Contains group p → p < pair.0 →
+    (get_or spots pair.0 no_spot).epoch ≤ℤ (get_or spots p no_spot).epoch → may_join settings spots pair group ≡ false
+late_no_join settings spots group pair p below places among h late =
+    let m = below.0 in
+    let n = below.1 in
+    let x : SpotData = get_or spots p no_spot in
+    let y : SpotData = get_or spots pair.0 no_spot in
+    no_reach_no_join settings spots group pair p x y below places among h (get_or_default spots p no_spot x (omega arith)) (get_or_default spots pair.0 no_spot y (omega arith)) (not_first _ _ _ (not_lt x.epoch y.epoch late))
+  where
+    not_lt : (a b : ℤ) → b ≤ℤ a → lt_z a b ≡ false
+    not_lt a b l = grind (arith, ints)
+
+    not_first : (a b c : Bool) → a ≡ false → (a && b && c) ≡ false
+    not_first a b c e = rw e refl
 
 -- ---- distances in declination
 -- two places of spots on a line, the first one below the second

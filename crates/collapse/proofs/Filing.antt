@@ -6,6 +6,7 @@ use Rattle.std.proofs.lemmas.Bool.{cases_lt, cases_order}
 use Rattle.std.proofs.lemmas.List.{get_or_append_left, get_or_default, get_or_read, get_or-set_other, get_or-set_same, length-map, length-set, map-set}
 use Rattle.std.proofs.lemmas.Int.{ints, to_z-of_z}
 use Rattle.std.proofs.lemmas.List.Elements.{All-map, All-nil, All-push, All-set, All-take, All-weaker, Contains-append_left, Contains-push}
+use Rattle.std.proofs.lemmas.List.Sorted.{IsNonDecreasingBy-push}
 use mathlib.Core.Logic.{inl, inr}
 use Rattle.line_fit.specs.Slopes.{AreOfOneDay}
 use Rattle.sky_math.proofs.Order.{mul_le}
@@ -14,18 +15,47 @@ use Rattle.sky_units.specs.Ranges.{IsBetween, IsEpoch}
 use Rattle.sky_units.specs.SettingsData.{AreSettings, SettingsData}
 use Rattle.sky_units.specs.SpotData.{SpotData}
 use Rattle.collapse.specs.Groups.{IsPairBelow, join_all, with_pair}
-use Rattle.collapse.specs.Strips.{AreEmpty, AreFiled, AreGroups, IsEntry, IsFiled, height, with_entry}
+use Rattle.collapse.specs.Strips.{AreEmpty, AreFiled, AreGroups, AreInOrder, IsEntry, IsFiled, height, with_entry}
 use Rattle.collapse.specs.declared.strips.Entry.{Entry}
+use Rattle.collapse.proofs.FirstPlaces.{FirstsDontFall, firsts_dont_fall}
 use Rattle.collapse.proofs.Firsts.{pair_below, places_so_far}
 use Rattle.collapse.proofs.OnLines.{groups_lie, lies_at, pairs_lie}
 use Rattle.collapse.proofs.Searching.{list_read}
 use Rattle.collapse.proofs.Together.{among_still}
 
-pub filed_none : (spots : List SpotData) (width : ℕ) (lists : List (List Entry)) (groups : List (List ℕ)) → AreEmpty width lists → groups ≡ [] → AreFiled spots width lists groups
-filed_none spots width lists groups empty e = rw e (record {
+-- ---- entries in the order of their places
+none_in_order : (last : ℕ) → AreInOrder last []
+none_in_order last = record {
+  places = λ i j d ij jn. absurd (omega arith);
+  most = All-nil (λ (entry : Entry). entry.place ≤ last);
+}
+
+one_more_in_order : (last : ℕ) (entries : List Entry) (entry : Entry) → entry.place ≡ last → AreInOrder last entries → AreInOrder last (entries ++ entry ∷ [])
+one_more_in_order last entries entry e order = record {
+  places = IsNonDecreasingBy-push (λ (entry : Entry). entry.place) entries entry order.places (λ d some. let m = order.most (length entries - 1) d (omega arith) in omega (arith, e, m));
+  most = All-push (λ (entry : Entry). entry.place ≤ last) entries entry order.most (omega (arith, e));
+}
+
+filed_later : (spots : List SpotData) (width last later : ℕ) (lists : List (List Entry)) (groups : List (List ℕ)) → last ≤ later → AreFiled spots width last lists groups → AreFiled spots width later lists groups
+filed_later spots width last later lists groups h filed = record {
+  count = filed.count;
+  entries = filed.entries;
+  each = filed.each;
+  in_order = All-weaker (AreInOrder last) (AreInOrder later)
+      (λ entries order. record {
+        places = order.places;
+        most = All-weaker (λ (entry : Entry). entry.place ≤ last) (λ (entry : Entry). entry.place ≤ later) (λ entry l. omega arith) entries order.most;
+      })
+      lists filed.in_order;
+}
+
+-- ---- no groups
+pub filed_none : (spots : List SpotData) (width last : ℕ) (lists : List (List Entry)) (groups : List (List ℕ)) → AreEmpty width lists → groups ≡ [] → AreFiled spots width last lists groups
+filed_none spots width last lists groups empty e = rw e (record {
   count = empty.count;
   entries = λ k d kl. subst (All (IsEntry [])) (sym (empty.none k d kl)) (All-nil (IsEntry []));
   each = λ i l. absurd (omega arith);
+  in_order = λ k d kl. subst (AreInOrder last) (sym (empty.none k d kl)) (none_in_order last);
 })
 
 -- a group of which places stay
@@ -48,8 +78,8 @@ entry_joined groups at union entry h still is =
     other : (entry.group ≡ at → ⊥) → Contains (get_or (set groups at union) entry.group []) entry.place
     other differs = subst (λ (xs : List ℕ). Contains xs entry.place) (sym (get_or-set_other groups at entry.group union [] differs)) is.among
 
-pub filed_joined : (spots : List SpotData) (width : ℕ) (lists : List (List Entry)) (groups : List (List ℕ)) (at : ℕ) (pair : ℕ × ℕ) (group union : List ℕ) → at < length groups → group ≡ get_or groups at group → union ≡ with_pair group pair → AreFiled spots width lists groups → AreFiled spots width lists (set groups at union)
-filed_joined spots width lists groups at pair group union h eg eu filed =
+pub filed_joined : (spots : List SpotData) (width last : ℕ) (lists : List (List Entry)) (groups : List (List ℕ)) (at : ℕ) (pair : ℕ × ℕ) (group union : List ℕ) → at < length groups → group ≡ get_or groups at group → union ≡ with_pair group pair → AreFiled spots width last lists groups → AreFiled spots width last lists (set groups at union)
+filed_joined spots width last lists groups at pair group union h eg eu filed =
     let group' : group ≡ get_or groups at [] = eg ∙ get_or_default groups at group [] h in
     let still : (p : ℕ) → Contains (get_or groups at []) p → Contains union p = λ p c. subst (λ (xs : List ℕ). Contains xs p) (sym eu) (among_still group pair p (subst (λ (xs : List ℕ). Contains xs p) (sym group') c)) in
     let n = length-set groups at union in
@@ -57,6 +87,7 @@ filed_joined spots width lists groups at pair group union h eg eu filed =
       count = filed.count;
       entries = λ k d kl. All-weaker (IsEntry groups) (IsEntry (set groups at union)) (λ e is. entry_joined groups at union e h still is) (get_or lists k d) (filed.entries k d kl);
       each = λ i l. filed.each i (omega (arith, n, l));
+      in_order = filed.in_order;
     }
 
 -- ---- a new group
@@ -82,7 +113,7 @@ listed_still lists strip k entry old h c = elim (cases_order k strip) as (λ _. 
     other differs = subst (λ (xs : List Entry). Contains xs old) (sym (get_or-set_other lists strip k (get_or lists strip [] ++ entry ∷ []) [] differs)) c
 
 pub filed_new : (spots : List SpotData) (width : ℕ) (lists : List (List Entry)) (groups : List (List ℕ)) (strip : ℕ) (new : List ℕ) (place : ℕ) (spot : SpotData) → place < length spots → spot ≡ get_or spots place spot → strip ≡ height spot / width → strip < length lists → Contains new place →
-    AreFiled spots width lists groups → AreFiled spots width (with_entry lists strip (record { place = place; group = length groups })) (groups ++ new ∷ [])
+    AreFiled spots width place lists groups → AreFiled spots width place (with_entry lists strip (record { place = place; group = length groups })) (groups ++ new ∷ [])
 filed_new spots width lists groups strip new place spot within es ek sl among filed =
     let entry : Entry = record { place = place; group = length groups } in
     let here : get_or (groups ++ new ∷ []) (length groups) [] ≡ new = get_or-append_seam groups new [] [] in
@@ -106,10 +137,11 @@ filed_new spots width lists groups strip new place spot within es ek sl among fi
                   subst (λ (k : ℕ). Contains (get_or (with_entry lists strip entry) k []) entry) strip' (subst (λ (xs : List Entry). Contains xs entry) (sym there) (Contains-push (get_or lists strip []) entry));
             })
       ];
+      in_order = All-set (AreInOrder place) lists strip (get_or lists strip [] ++ entry ∷ []) (one_more_in_order place (get_or lists strip []) entry refl (filed.in_order strip [] sl)) filed.in_order;
     }
 
 pub filed_pushed : (spots : List SpotData) (width : ℕ) (lists more : List (List Entry)) (groups all : List (List ℕ)) (strip at : ℕ) (new : List ℕ) (pair : ℕ × ℕ) (spot : SpotData) → IsPairBelow (length spots) pair → spot ≡ get_or spots pair.0 spot → strip ≡ height spot / width → strip ≤ 180000000 / width →
-    new ≡ pair.0 ∷ pair.1 ∷ [] → AreFiled spots width lists groups → more ≡ with_entry lists strip (record { place = pair.0; group = at }) → at ≡ length groups → all ≡ groups ++ new ∷ [] → AreFiled spots width more all
+    new ≡ pair.0 ∷ pair.1 ∷ [] → AreFiled spots width pair.0 lists groups → more ≡ with_entry lists strip (record { place = pair.0; group = at }) → at ≡ length groups → all ≡ groups ++ new ∷ [] → AreFiled spots width pair.0 more all
 filed_pushed spots width lists more groups all strip at new pair spot below es ek size en filed em ea eg =
     let m = below.0 in
     let n = below.1 in
@@ -118,7 +150,7 @@ filed_pushed spots width lists more groups all strip at new pair spot below es e
     let among : Contains new pair.0 = subst (λ (xs : List ℕ). Contains xs pair.0) (sym en) (0, omega arith, refl) in
     let f = filed_new spots width lists groups strip new pair.0 spot (omega arith) es ek sl among filed in
     let lists' : more ≡ with_entry lists strip (record { place = pair.0; group = length groups }) = em ∙ ap (λ (k : ℕ). with_entry lists strip (record { place = pair.0; group = k })) ea in
-    subst (λ (gs : List (List ℕ)). AreFiled spots width more gs) (sym eg) (subst (λ (ls : List (List Entry)). AreFiled spots width ls (groups ++ new ∷ [])) (sym lists') f)
+    subst (λ (gs : List (List ℕ)). AreFiled spots width pair.0 more gs) (sym eg) (subst (λ (ls : List (List Entry)). AreFiled spots width pair.0 ls (groups ++ new ∷ [])) (sym lists') f)
 
 -- a strip with one entry more, as code pushes it
 pub pushed : {K : Type 0} (f : K → List Entry) (xs : List K) (strip : ℕ) (old new : K) (entry : Entry) → strip < length xs → old ≡ get_or xs strip old → f new ≡ f old ++ entry ∷ [] → map f (set xs strip new) ≡ with_entry (map f xs) strip entry
@@ -129,9 +161,16 @@ pub none_filed : {K : Type 0} (f : K → List Entry) (xs : List K) (width : ℕ)
 none_filed f xs width e h = record { count = length-map xs f ∙ e; none = All-map (λ list. list ≡ []) f xs h }
 
 -- ---- pairs one after the other
+-- the first pairs have joined groups, and these are filed up to the first place of the next one
 pub record AreJoined (settings : SettingsData) (spots : List SpotData) (pairs : List (ℕ × ℕ)) (at : ℕ) (groups : List (List ℕ)) (width : ℕ) (lists : List (List Entry)) : Type 0 where
   pub joined : groups ≡ join_all settings spots (take at pairs) []
-  pub filed : AreFiled spots width lists groups
+  pub filed : at < length pairs → AreFiled spots width (get_or pairs at (0, 0)).0 lists groups
+
+pub filed_next : (settings : SettingsData) (spots : List SpotData) (pairs : List (ℕ × ℕ)) (at width : ℕ) (lists : List (List Entry)) (groups : List (List ℕ)) → pairs ≡ pairs_of settings spots → AreFiled spots width (get_or pairs at (0, 0)).0 lists groups →
+    at + 1 < length pairs → AreFiled spots width (get_or pairs (at + 1) (0, 0)).0 lists groups
+filed_next settings spots pairs at width lists groups e filed more =
+    let order : FirstsDontFall pairs = subst FirstsDontFall (sym e) (firsts_dont_fall settings spots) in
+    filed_later spots width (get_or pairs at (0, 0)).0 (get_or pairs (at + 1) (0, 0)).0 lists groups (order at (at + 1) (0, 0) (omega arith) more) filed
 
 pub groups_so_far : (settings : SettingsData) (spots : List SpotData) (pairs : List (ℕ × ℕ)) (at : ℕ) (groups : List (List ℕ)) → AreSettings settings → EpochsDontFall spots → AreOfOneDay spots → pairs ≡ pairs_of settings spots → groups ≡ join_all settings spots (take at pairs) [] → AreGroups settings spots groups
 groups_so_far settings spots pairs at groups ranges order day e joined =

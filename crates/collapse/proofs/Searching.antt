@@ -1,20 +1,24 @@
 -- The search for the first group that a pair may join: entry by entry, and strip by strip.
-use Rattle.std.proofs.Common.{◌≡◌, ℕ, ◌+◌, ◌-◌, ◌/◌, ◌<◌, ◌≤◌, true, false, List, [], ◌∷◌, ◌++◌, length, map, take, get_or, sym, subst, ap, ◌∙◌, arith}
+use Rattle.std.proofs.Common.{◌≡◌, ℕ, ◌+◌, ◌-◌, ◌/◌, ◌<◌, ◌≤◌, ℤ, ◌≤ℤ◌, true, false, List, [], ◌∷◌, ◌++◌, length, map, take, get_or, sym, subst, ap, ◌∙◌, arith}
+use Rattle.std.specs.Int.Signed.{le_z}
 use Rattle.std.specs.List.{All, Contains}
+use Rattle.std.specs.List.Sorted.{IsPartitionPoint}
 use Rattle.std.specs.Prelude.{min}
 use Rattle.std.proofs.Math.Nat.{div-mul-le_self}
 use Rattle.std.proofs.lemmas.Bool.{cases_Bool, cases_lt, false≢true}
-use Rattle.std.proofs.lemmas.List.{get_or-map, get_or_default, get_or_past, get_or_read, length-map, take_more}
+use Rattle.std.proofs.lemmas.Int.{ints}
+use Rattle.std.proofs.lemmas.List.{get_or-map, get_or-take, get_or_default, get_or_past, get_or_read, length-map, length-take, take_more}
 use Rattle.std.proofs.lemmas.List.Elements.{All-append, All-cons, All-contains, All-nil, All-weaker}
 use Rattle.std.proofs.lemmas.Nat.{le-div}
 use mathlib.Core.Logic.{inl, inr}
+use Rattle.sky_units.specs.Pairs.{EpochsDontFall}
 use Rattle.sky_units.specs.SettingsData.{SettingsData}
 use Rattle.sky_units.specs.SpotData.{SpotData}
 use Rattle.collapse.specs.First.{IsFirstToJoin}
 use Rattle.collapse.specs.Groups.{IsPairBelow, may_join}
-use Rattle.collapse.specs.Strips.{AreFiled, AreGroups, IsEntry, IsFirstOf, IsReach, height}
+use Rattle.collapse.specs.Strips.{AreFiled, AreGroups, IsEntry, IsFirstOf, IsReach, PlacesDontFall, height}
 use Rattle.collapse.specs.declared.strips.Entry.{Entry}
-use Rattle.collapse.proofs.Distances.{near_of_join}
+use Rattle.collapse.proofs.Distances.{late_no_join, near_of_join, rises}
 use Rattle.collapse.proofs.Together.{no_spot}
 
 -- ---- one entry
@@ -56,6 +60,39 @@ pub first_more : (settings : SettingsData) (spots : List SpotData) (pair : ℕ �
     IsFirstOf settings spots pair groups (get_or entries at d ∷ []) first later → IsFirstOf settings spots pair groups (take (at + 1) entries) below later
 first_more settings spots pair groups entries at below first later d h a b = rw (take_more entries at d h) (first_both settings spots pair groups (take at entries) (get_or entries at d ∷ []) below first later a b)
 
+-- ---- entries that a pair passes by
+pub first_passes : (settings : SettingsData) (spots : List SpotData) (pair : ℕ × ℕ) (groups : List (List ℕ)) (entries : List Entry) (at next below first : ℕ) (d : Entry) → EpochsDontFall spots → IsPairBelow (length spots) pair → AreGroups settings spots groups → All (IsEntry groups) entries →
+    PlacesDontFall entries → at < length entries → next ≤ length entries → (get_or entries at d).place < pair.0 → le_z (get_or spots pair.0 no_spot).epoch (get_or spots (get_or entries at d).place no_spot).epoch ≡ true →
+    IsPartitionPoint (λ (e : Entry). e.place < pair.0) (λ (e : Entry). pair.0 ≤ e.place) entries next → IsFirstOf settings spots pair groups (take at entries) below first → IsFirstOf settings spots pair groups (take next entries) below first
+first_passes settings spots pair groups entries at next below first d order pair_below are is_entry dont_fall h within before late parts told = record {
+  most = told.most;
+  joins = told.joins;
+  before = λ k f kn.
+      let k' : k < next = omega (arith, kn, length-take next entries) in
+      let l : k < length entries = omega (arith, k', within) in
+      subst (FailsBelow settings spots pair groups first) (sym (get_or-take next entries k f k'))
+      (elim (cases_lt k at) as (λ _. FailsBelow settings spots pair groups first (get_or entries k f)) [
+        | inl m ↦ subst (FailsBelow settings spots pair groups first) (get_or-take at entries k f m) (told.before k f (omega (arith, m, h, length-take at entries)))
+        | inr m ↦ λ _. none k f m l k'
+      ]);
+}
+  where
+    le_of_test : (a b : ℤ) → le_z a b ≡ true → a ≤ℤ b
+    le_of_test a b e = grind (arith, ints)
+
+    none : (k : ℕ) (f : Entry) → at ≤ k → k < length entries → k < next → may_join settings spots pair (get_or groups (get_or entries k f).group []) ≡ false
+    none k f m l k' =
+        let entry : Entry = get_or entries k f in
+        let is = is_entry k f l in
+        let same : get_or entries at d ≡ get_or entries at f = get_or_default entries at d f h in
+        let from : (get_or entries at d).place ≤ entry.place = rw same (dont_fall at k f m l) in
+        let other : entry.place < pair.0 = parts.0 k f (omega arith) k' in
+        let n = pair_below.0 in
+        let n' = pair_below.1 in
+        let rise = rises spots (get_or entries at d).place entry.place no_spot order from (omega (arith, other, n, n')) in
+        let first_late : (get_or spots pair.0 no_spot).epoch ≤ℤ (get_or spots (get_or entries at d).place no_spot).epoch = le_of_test _ _ late in
+        late_no_join settings spots (get_or groups entry.group []) pair entry.place pair_below (are.places entry.group [] is.within) is.among other (omega (arith, ints, rise, first_late))
+
 -- ---- strips one after the other
 pub record AreSearched (settings : SettingsData) (spots : List SpotData) (pair : ℕ × ℕ) (groups : List (List ℕ)) (lists : List (List Entry)) (low high first : ℕ) : Type 0 where
   pub most : first ≤ length groups
@@ -92,7 +129,7 @@ listed_within lists k e c = elim (cases_lt k (length lists)) as (λ _. k < lengt
   | inr past ↦ let none : get_or lists k [] ≡ [] = get_or_past lists k [] past in let l = c.1 in absurd (omega (arith, ap length none, l))
 ]
 
-pub searched_all : (settings : SettingsData) (spots : List SpotData) (pair : ℕ × ℕ) (groups : List (List ℕ)) (lists : List (List Entry)) (width reach low high first : ℕ) → IsPairBelow (length spots) pair → AreGroups settings spots groups → 0 < width → IsReach settings spots reach → AreFiled spots width lists groups →
+pub searched_all : {last : ℕ} (settings : SettingsData) (spots : List SpotData) (pair : ℕ × ℕ) (groups : List (List ℕ)) (lists : List (List Entry)) (width reach low high first : ℕ) → IsPairBelow (length spots) pair → AreGroups settings spots groups → 0 < width → IsReach settings spots reach → AreFiled spots width last lists groups →
     ((d : SpotData) → low ≤ (height (get_or spots pair.0 d) - reach) / width) → ((d : SpotData) → (k : ℕ) → k ≤ (height (get_or spots pair.0 d) + reach) / width → k < length lists → k < high) → AreSearched settings spots pair groups lists low high first → IsFirstToJoin settings spots pair groups first
 searched_all settings spots pair groups lists width reach low high first below are positive covers filed from to s = record {
   most = s.most;
@@ -127,8 +164,8 @@ list_read f xs i x h e = ap f e ∙ sym (get_or-map f xs i x [] h)
 pub strip_within : (strip end n m : ℕ) → strip < end → end ≡ min n m → strip < n
 strip_within strip end n m h e = let h' = rw e at h in omega arith
 
-pub found_in_strips : {K : Type 0} (f : K → List Entry) (settings : SettingsData) (spots : List SpotData) (pair : ℕ × ℕ) (groups : List (List ℕ)) (strips : List K) (width reach low end at first : ℕ) (spot : SpotData) → IsPairBelow (length spots) pair → AreGroups settings spots groups → 0 < width → IsReach settings spots reach →
-    AreFiled spots width (map f strips) groups → spot ≡ get_or spots pair.0 spot → low ≡ height spot - reach → end ≡ min (length strips) ((height spot + reach) / width + 1) → end ≤ at → AreSearched settings spots pair groups (map f strips) (low / width) at first → IsFirstToJoin settings spots pair groups first
+pub found_in_strips : {K : Type 0} {last : ℕ} (f : K → List Entry) (settings : SettingsData) (spots : List SpotData) (pair : ℕ × ℕ) (groups : List (List ℕ)) (strips : List K) (width reach low end at first : ℕ) (spot : SpotData) → IsPairBelow (length spots) pair → AreGroups settings spots groups → 0 < width → IsReach settings spots reach →
+    AreFiled spots width last (map f strips) groups → spot ≡ get_or spots pair.0 spot → low ≡ height spot - reach → end ≡ min (length strips) ((height spot + reach) / width + 1) → end ≤ at → AreSearched settings spots pair groups (map f strips) (low / width) at first → IsFirstToJoin settings spots pair groups first
 found_in_strips f settings spots pair groups strips width reach low end at first spot below are positive covers filed es el ee past s =
     let m = below.0 in
     let n = below.1 in

@@ -2,6 +2,7 @@
 use Rattle.std.specs.Prelude.{◌≡◌, ◌≤◌, ◌<◌, ◌/◌, ◌+◌, ℕ, pos, ◌+ℤ◌, ◌-ℤ◌, ◌*ℤ◌, ◌≤ℤ◌, ℤ, true, false, List, [], ◌∷◌, ◌++◌, length, slice_index_or, slice_set}
 use Rattle.std.specs.Int.RustNames.{unsigned_abs}
 use Rattle.std.specs.List.{All, Contains}
+use Rattle.std.specs.List.Sorted.{IsNonDecreasingBy}
 use Rattle.sky_units.specs.AtPlaces.{spots_at}
 use Rattle.sky_units.specs.SettingsData.{SettingsData}
 use Rattle.sky_units.specs.SpotData.{SpotData}
@@ -47,11 +48,21 @@ pub record IsFiled (spots : List SpotData) (width : ℕ) (lists : List (List Ent
   pub within : place < length spots
   pub listed : (d : SpotData) → Contains (slice_index_or lists (height (slice_index_or spots place d) / width) []) (record { place = place; group = group })
 
--- the strips reach from pole to pole, and have an entry of each group
-pub record AreFiled (spots : List SpotData) (width : ℕ) (lists : List (List Entry)) (groups : List (List ℕ)) : Type 0 where
+-- entries in the order of their places
+abbrev pub PlacesDontFall : List Entry → Type 0
+PlacesDontFall entries = IsNonDecreasingBy (λ (entry : Entry). entry.place) entries
+
+-- entries in the order of their places, none of which is beyond a last one
+pub record AreInOrder (last : ℕ) (entries : List Entry) : Type 0 where
+  pub places : PlacesDontFall entries
+  pub most : All (λ entry. entry.place ≤ last) entries
+
+-- the strips reach from pole to pole, have an entry of each group, and each is in the order of its places, up to a last one
+pub record AreFiled (spots : List SpotData) (width last : ℕ) (lists : List (List Entry)) (groups : List (List ℕ)) : Type 0 where
   pub count : length lists ≡ 180000000 / width + 1
   pub entries : All (All (IsEntry groups)) lists
   pub each : (i : ℕ) → i < length groups → IsFiled spots width lists i
+  pub in_order : All (AreInOrder last) lists
 
 -- the number is the least one below a limit whose group among the entries the pair may join, or the limit
 pub record IsFirstOf (settings : SettingsData) (spots : List SpotData) (pair : ℕ × ℕ) (groups : List (List ℕ)) (entries : List Entry) (below first : ℕ) : Type 0 where

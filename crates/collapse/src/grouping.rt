@@ -61,11 +61,11 @@ fn add_pair(
     requires pair { IsPairBelow (length spots.now) pair }
     requires grid { IsGrid settings.now spots.now grid.width grid.reach }
     requires groups { AreGroups settings.now spots.now groups.now.items }
-    requires filed { AreFiled spots.now grid.width
+    requires filed { AreFiled spots.now grid.width pair.0
         (map (λ list. list.items) strips.now.items) groups.now.items }
     ensures groups { OnOk result (groups.new.items ≡
         join_first settings.now spots.now pair groups.old.items) }
-    ensures filed { OnOk result (AreFiled spots.now grid.width
+    ensures filed { OnOk result (AreFiled spots.now grid.width pair.0
         (map (λ list. list.items) strips.new.items) groups.new.items) }
 {
     let at = first_to_join(

@@ -6,10 +6,10 @@ ghost use Rattle.sky_units.specs.Pairs.{EpochsDontFall};
 ghost use Rattle.line_fit.specs.Slopes.{AreOfOneDay};
 ghost use Rattle.collapse.specs.First.{IsFirstToJoin};
 ghost use Rattle.collapse.specs.Groups.{may_join, ArePlaces, IsPairBelow};
-ghost use Rattle.collapse.specs.Strips.{AreFiled, AreGroups, IsEntry, IsFirstOf, IsGrid, LieOnLine};
+ghost use Rattle.collapse.specs.Strips.{AreFiled, AreGroups, IsEntry, IsFirstOf, IsGrid, LieOnLine, PlacesDontFall};
 
-use crate::reaching::may_reach;
-use crate::strips::{Entry, Grid, height};
+use crate::reaching::{may_reach, passes_by};
+use crate::strips::{Entry, Grid, count_before, height};
 use crate::uniting::{has_both, with_pair};
 use line_fit::fits_line;
 use sky_units::{NoMemory, Places, Settings, Spot, spots_at};
@@ -30,7 +30,7 @@ pub fn first_to_join(
     requires pair { IsPairBelow (length spots.now) pair }
     requires grid { IsGrid settings.now spots.now grid.width grid.reach }
     requires groups { AreGroups settings.now spots.now groups.now }
-    requires filed { AreFiled spots.now grid.width
+    requires filed { AreFiled spots.now grid.width pair.0
         (map (λ list. list.items) strips.now) groups.now }
     ensures { IfOk result (IsFirstToJoin settings.now spots.now pair groups.now) }
 {
@@ -52,7 +52,10 @@ pub fn first_to_join(
     Ok(first)
 }
 
-/// The least number below a limit of a group among some entries that a pair may join, or the limit.
+/// The least number below a limit of a group in a strip that a pair may join, or the limit.
+///
+/// The entries are in the order of their places, and so of epochs: behind one that the pair passes by, it
+/// passes by all but those of its own first spot, which are the last ones.
 fn first_in(
     alloc: Global,
     groups: &[Places],
@@ -67,11 +70,18 @@ fn first_in(
     requires pair { IsPairBelow (length spots.now) pair }
     requires groups { AreGroups settings.now spots.now groups.now }
     requires entries { All (IsEntry groups.now) entries.now }
+    requires in_order { PlacesDontFall entries.now }
     ensures { IfOk result (IsFirstOf settings.now spots.now pair groups.now entries.now below) }
 {
     let mut first = below;
-    for at in 0..entries.len() {
-        first = first_of(alloc, groups, entries[at], spots, pair, first, settings)?;
+    let mut at = 0;
+    while at < entries.len() {
+        if passes_by(entries[at].place, spots, pair) {
+            at = count_before(entries, pair.0);
+        } else {
+            first = first_of(alloc, groups, entries[at], spots, pair, first, settings)?;
+            at += 1;
+        }
     }
     Ok(first)
 }

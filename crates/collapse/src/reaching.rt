@@ -1,10 +1,11 @@
 //! Whether a group and a pair are near enough to lie on a line: a quick test before the exact one.
 
-ghost use Rattle.std.specs.Prelude.{◌≡◌, ◌<◌, ◌+ℤ◌, ◌-ℤ◌, ◌*ℤ◌, ◌≤ℤ◌, neg_ℤ, pos, false, ◌&&◌, ℕ, List, length};
+ghost use Rattle.std.specs.Prelude.{◌≡◌, ◌<◌, ◌+ℤ◌, ◌-ℤ◌, ◌*ℤ◌, ◌≤ℤ◌, neg_ℤ, pos, true, false, ◌&&◌, ℕ, List, length, slice_index_or};
 ghost use Rattle.std.specs.Int.Signed.{le_z};
 ghost use Rattle.std.specs.List.{Contains};
 ghost use Rattle.sky_units.specs.Motion.{offset};
 ghost use Rattle.sky_units.specs.Ranges.{IsBetween};
+ghost use Rattle.sky_units.specs.SpotData.{SpotData};
 ghost use Rattle.line_fit.specs.Slopes.{AreOfOneDay};
 ghost use Rattle.collapse.specs.Groups.{may_join, ArePlaces, IsPairBelow};
 ghost use Rattle.collapse.specs.Reach.{are_in_reach};
@@ -26,6 +27,22 @@ pub fn may_reach(place: u32, spots: &[Spot], pair: (u32, u32), settings: &Settin
         return true;
     }
     are_in_reach(&spots[place as usize], &spots[pair.0 as usize], settings)
+}
+
+/// Whether the spot at a place comes before a pair's first one, and isn't earlier. Then the pair may join
+/// no group that has the place.
+pub fn passes_by(place: u32, spots: &[Spot], pair: (u32, u32)) -> bool
+    requires { IsPairBelow (length spots.now) pair }
+    ensures before { result ≡ true → place < pair.0 }
+    ensures late { (d : SpotData) → place < pair.0 → result ≡
+        le_z (slice_index_or spots.now pair.0 d).epoch (slice_index_or spots.now place d).epoch }
+{
+    if place >= pair.0 {
+        return false;
+    }
+    let from = &spots[place as usize];
+    let to = &spots[pair.0 as usize];
+    to.epoch <= from.epoch
 }
 
 /// Whether one spot is later than another one, and within its reach on both axes.

@@ -1,10 +1,11 @@
 //! Strips of the sky in declination, with the groups that have a spot there.
 
 ghost use Rattle.std.specs.Prelude.{◌≡◌, ◌<◌, ◌≤◌, ◌+◌, ◌/◌, pos, neg_ℤ, ◌*ℤ◌, ◌≤ℤ◌, length, map, IfOk, OnOk};
+ghost use Rattle.std.specs.List.Sorted.{IsPartitionPoint};
 ghost use Rattle.sky_units.specs.Pairs.{EpochsDontFall};
 ghost use Rattle.sky_units.specs.Ranges.{IsBetween};
 ghost use Rattle.line_fit.specs.Slopes.{AreOfOneDay};
-ghost use Rattle.collapse.specs.Strips.{AreEmpty, IsGrid, IsReach, IsReachOver, height, with_entry};
+ghost use Rattle.collapse.specs.Strips.{AreEmpty, IsGrid, IsReach, IsReachOver, PlacesDontFall, height, with_entry};
 
 use crate::reaching::reach;
 use sky_units::{NoMemory, Settings, Spot};
@@ -123,4 +124,14 @@ pub fn file(strips: &mut Vec<Vec<Entry>>, strip: usize, entry: Entry) -> Result<
 {
     strips[strip].push(entry)?;
     Ok(())
+}
+
+/// How many entries, in the order of their places, stand before those of a place and of later ones.
+pub fn count_before(entries: &[Entry], place: u32) -> usize
+    requires { PlacesDontFall entries.now }
+    ensures within { result ≤ length entries.now }
+    ensures parts { IsPartitionPoint (λ entry. entry.place < place) (λ entry. place ≤ entry.place)
+        entries.now result }
+{
+    entries.partition_point(|entry| entry.place < place)
 }

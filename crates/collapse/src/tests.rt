@@ -134,3 +134,24 @@ fn across_ra_zero(rt: HostRuntime) -> Result<(), Fail> {
     assert!(rt; make(rt.alloc(), &spots, &[&[0, 1, 2]])?);
     Ok(())
 }
+
+/// Three of one epoch share both later ones, on lines that an earlier one lies off.
+#[test]
+fn three_of_one_epoch(rt: HostRuntime) -> Result<(), Fail> {
+    let spots = [
+        spot(0, 59_000_240_000, 9_995_000),
+        spot(1, 59_000_250_000, 10_001_000),
+        spot(2, 59_000_250_000, 10_001_000),
+        spot(3, 59_000_250_000, 10_001_000),
+        spot(4, 59_000_260_000, 10_002_000),
+        spot(5, 59_000_270_000, 10_003_000),
+    ];
+    assert!(rt;
+        make(
+            rt.alloc(),
+            &spots,
+            &[&[0, 4], &[0, 5], &[1, 4, 5], &[2, 4, 5], &[3, 4, 5]]
+        )?
+    );
+    Ok(())
+}

@@ -22,7 +22,7 @@ use Rattle.exposure_log.proofs.StableSort.{equal_from_no_greater}
 abbrev pub Ds : Type 0
 Ds = List Observation
 
-abbrev at : Observation → Place
+abbrev pub at : Observation → Place
 at d = (d.epoch, d.site)
 
 abbrev place : ExposureData → Place
@@ -73,12 +73,12 @@ before Equal Equal c h = cc
 before Equal Greater c h = cc
 before Greater b c h = cc
 
-both_equal : (a b : Ordering) → ordering_then a b ≡ Equal → (a ≡ Equal) × (b ≡ Equal)
+pub both_equal : (a b : Ordering) → ordering_then a b ≡ Equal → (a ≡ Equal) × (b ≡ Equal)
 both_equal Less b h = cc
 both_equal Equal b h = (refl, h)
 both_equal Greater b h = cc
 
-is_equal : (r : Ordering) → is_eq r ≡ true → r ≡ Equal
+pub is_equal : (r : Ordering) → is_eq r ≡ true → r ≡ Equal
 is_equal Less h = cc
 is_equal Equal h = refl
 is_equal Greater h = cc
@@ -98,7 +98,7 @@ earlier_place : (d e : Observation) → by_place (at d) (at e) ≡ Less → NotA
 earlier_place d e h = before (int_cmp d.epoch e.epoch) (slice_cmp nat_cmp d.site e.site) (slice_cmp nat_cmp d.id e.id) h
 
 -- places that are tied are the same
-same_place : (p q : Place) → by_place p q ≡ Equal → (p.0 ≡ q.0) × (p.1 ≡ q.1)
+pub same_place : (p q : Place) → by_place p q ≡ Equal → (p.0 ≡ q.0) × (p.1 ≡ q.1)
 same_place p q h =
     let both = both_equal (int_cmp p.0 q.0) (slice_cmp nat_cmp p.1 q.1) h in
     (exact_signed p.0 q.0 both.0, exact_bytes p.1 q.1 both.1)
@@ -109,10 +109,10 @@ pair e s = (e, s)
 place_is : (p q : Place) → p.0 ≡ q.0 → p.1 ≡ q.1 → p ≡ q
 place_is p q e s = ap (λ (z : ℤ). pair z p.1) e ∙ ap (pair q.0) s
 
-same_at : (p q : Place) → p.0 ≡ q.0 → p.1 ≡ q.1 → by_place p q ≡ Equal
+pub same_at : (p q : Place) → p.0 ≡ q.0 → p.1 ≡ q.1 → by_place p q ≡ Equal
 same_at p q e s = ap (λ (z : Place). by_place z q) (place_is p q e s) ∙ tied_itself place_total q
 
-same_epoch : (x y : ℤ) → x ≡ y → int_cmp x y ≡ Equal
+pub same_epoch : (x y : ℤ) → x ≡ y → int_cmp x y ≡ Equal
 same_epoch x y e = ap (λ (z : ℤ). int_cmp z y) e ∙ tied_itself int_cmp_total y
 
 pub same_site : (x y : List ℕ) → x ≡ y → slice_cmp nat_cmp x y ≡ Equal
@@ -121,7 +121,7 @@ same_site x y e = ap (λ (z : List ℕ). slice_cmp nat_cmp z y) e ∙ tied_itsel
 by_id : (x y : Observation) → NotAfter x y → IsOfOneExposure x y → is_gt (slice_cmp nat_cmp x.id y.id) ≡ false
 by_id x y h one = rw (same_epoch x.epoch y.epoch one.0, same_site x.site y.site one.1) at h
 
-by_ids : (a b c : Ordering) → ordering_then a b ≡ Equal → is_gt c ≡ false → is_gt (ordering_then a (ordering_then b c)) ≡ false
+pub by_ids : (a b c : Ordering) → ordering_then a b ≡ Equal → is_gt c ≡ false → is_gt (ordering_then a (ordering_then b c)) ≡ false
 by_ids a b c e h = let both = both_equal a b e in rw (both.0, both.1) h
 
 -- ---- what holds of each detection of joined exposures

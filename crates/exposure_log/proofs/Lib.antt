@@ -14,6 +14,7 @@ pub mod Fronts
 pub mod LeastNumbers
 pub mod StableSort
 pub mod Cutting
+pub mod OneExposure
 pub mod Delivering
 pub mod NightOrder
 pub mod ByNight

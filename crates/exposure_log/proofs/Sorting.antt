@@ -1,5 +1,7 @@
 -- Sorting in canonical order.
-use Rattle.std.proofs.Common.{◌≡◌, Bool, false, List, get_or, refl, arith}
+use Rattle.std.proofs.Common.{◌≡◌, Ok, Err, Bool, false, List, get_or, refl, arith}
+use Rattle.std.specs.Prelude.{OnOk}
+use Rattle.std.specs.declared.result.Result.{Result}
 use Rattle.std.specs.List.{AllPairs}
 use Rattle.std.specs.List.Sorted.{IsSortedBy}
 use Rattle.std.specs.Cmp.{IsTotalOrder, IsStrictWeakOrder}
@@ -25,7 +27,7 @@ stands_lower x y = is_lt (canonical_cmp x y)
 pub canonical_ranks : IsStrictWeakOrder stands_lower
 canonical_ranks = ranks_by canonical_total (λ (d : Observation). d)
 
-not_greater : (r s : Ordering) → r ≡ ordering_reverse s → is_lt s ≡ false → is_gt r ≡ false
+pub not_greater : (r s : Ordering) → r ≡ ordering_reverse s → is_lt s ≡ false → is_gt r ≡ false
 not_greater r Less e h = cc
 not_greater r Equal e h = rw e refl
 not_greater r Greater e h = rw e refl
@@ -34,3 +36,13 @@ pub rising_from_sorted : (ds : List Observation) → IsSortedBy stands_lower ds 
 rising_from_sorted ds up i j d l h =
     not_greater (canonical_cmp (get_or ds i d) (get_or ds j d)) (canonical_cmp (get_or ds j d) (get_or ds i d)) (canonical_total.antisymm (get_or ds i d) (get_or ds j d))
     (sorted_far stands_lower canonical_ranks ds up i j d (omega (arith, l)) h)
+
+-- ---- what holds where a sort had its memory
+
+pub where_ok : {T E : Type 0} (r : Result T E) (P : Type 0) → P → OnOk r P
+where_ok (Ok x) P p = p
+where_ok (Err e) P p = tt
+
+pub then_ok : {T E : Type 0} (r : Result T E) (P Q : Type 0) → (P → Q) → OnOk r P → OnOk r Q
+then_ok (Ok x) P Q h p = h p
+then_ok (Err e) P Q h p = tt

@@ -70,7 +70,7 @@ without_first true x ys zs e = rest_same x x ys zs e
 without_first false x ys zs e = e
 
 module _ {X : Type 0} (cmp : X → X → Ordering) (o : IsTotalOrder cmp) where
-  equal_from_tie : (x y : X) → tied cmp x y ≡ true → cmp x y ≡ Equal
+  pub equal_from_tie : (x y : X) → tied cmp x y ≡ true → cmp x y ≡ Equal
   equal_from_tie x y h = equal_from_no_less (cmp x y) (cmp y x) (o.antisymm x y) h
 
   tie_from_equal : (x y : X) → cmp x y ≡ Equal → tied cmp x y ≡ true

@@ -7,7 +7,7 @@ ghost use Rattle.exposure_log.specs.Deliveries.{AreExposuresOf, IsOneExposure};
 ghost use Rattle.exposure_log.specs.Gathered.{Precedes, NotAfter, IsOfOneExposure};
 ghost use Rattle.exposure_log.specs.Exposures.{IsExposure, IdsDontFall};
 
-use crate::canonical::{are_of_one_exposure, compare};
+use crate::canonical::{are_of_one_exposure, sort};
 use miti_text::Detection;
 use sky_units::{NoMemory, Word};
 use std::alloc::Global;
@@ -117,7 +117,7 @@ pub fn gather(alloc: Global, list: Vec<Detection>) -> Result<Vec<Exposure>, NoMe
     ensures { IfOk result (λ exposures. AreExposuresOf list.items exposures.items) }
 {
     let mut sorted = list;
-    sorted.sort_by(compare)?;
+    sort(&mut sorted)?;
     cut(alloc, sorted)
 }
 

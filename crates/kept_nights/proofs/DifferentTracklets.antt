@@ -13,6 +13,7 @@ use Rattle.std.proofs.lemmas.List.Elements.{All-cons, All-head, All-map, All-tai
 use Rattle.std.proofs.lemmas.List.Kept.{AllPairs-filter}
 use Rattle.std.proofs.lemmas.Map.Keys.{Less-from_sorted}
 use Rattle.std.proofs.lemmas.Map.Views.{All-insert_key}
+use Rattle.std.proofs.lemmas.Simd.{map-map}
 use Rattle.sky_math.specs.Lists.{EachTwo}
 use Rattle.sky_units.proofs.SpotsAtPlaces.{spots_are}
 use Rattle.sky_units.specs.AtPlaces.{spots_at}
@@ -31,7 +32,7 @@ use Rattle.night_tree.proofs.NightTracklets.{all_in_order, are_sets}
 use Rattle.night_tree.proofs.Sets.{inserted}
 use Rattle.plain_tracks.proofs.Members.{each_two_map}
 use Rattle.kept_nights.specs.LinkerState.{LinkerState}
-use Rattle.kept_nights.specs.KeptNights.{held_nights, nights_of}
+use Rattle.kept_nights.specs.KeptNights.{held_nights, night_data, nights_of}
 use Rattle.kept_nights.proofs.HeldNights.{Entry, each_is, filtered, here, of_night_entry}
 
 -- ---- the sets of places rise
@@ -127,6 +128,58 @@ tracklets_differ settings spots apart =
     let one : List ℕ = get_or sets i d in
     let same : one ≡ get_or sets j d = same_places spots one (get_or sets j d) apart (each i d (omega arith)).within (each j d jn).within e in
     never_itself one (subst (Comes one) (sym same) (sets_rise (sets_of settings spots) i j d ij jn)))
+
+-- the tracklets of a night with held exposures, each once
+pub once_of_night : (s : LinkerState) (night : ℤ) → IsOrderly s.log → EachTwo (λ one other. one ≡ other → ⊥) (night_data s night).tracklets
+once_of_night s night o = tracklets_differ s.settings (spots_of_night s.log night) (spots_differ s.log night o)
+
+-- ---- they are told by the labels of their spots
+abbrev HaveOtherLabels : SpotData → SpotData → Type 0
+HaveOtherLabels one other = one.num ≡ other.num → ⊥
+
+abbrev label : SpotData → ℕ
+label spot = spot.num
+
+abbrev label_at : List SpotData → ℕ → ℕ
+label_at spots p = label (get_or spots p no_spot)
+
+same_label : (spots : List SpotData) (p q : ℕ) → EachTwo HaveOtherLabels spots → p < length spots → q < length spots → label_at spots p ≡ label_at spots q → p ≡ q
+same_label spots p q apart pn qn e = elim (cases_lt p q) [
+  | inl less ↦ absurd (apart p q no_spot less qn e)
+  | inr more ↦ elim (cases_lt q p) [ inl less ↦ absurd (apart q p no_spot less pn (sym e)) | inr same ↦ omega arith ]
+]
+
+labels_at : (spots : List SpotData) (ps : List ℕ) → All (λ p. p < length spots) ps → map label (spots_at spots ps) ≡ map (label_at spots) ps
+labels_at spots ps pn = ap (map label) (spots_are spots ps no_spot pn) ∙ map-map label (λ (p : ℕ). get_or spots p no_spot) ps
+
+numbers_differ : (ds : List Entry) → IsStrictlySortedBy canonical_cmp (map (λ (x : Entry). x.1) ds) → ((n : ℕ) (d e : Observation) → Contains ds (n, d) → Contains ds (n, e) → d ≡ e) → EachTwo (λ (one other : Entry). HaveOtherLabels (spot_of one) (spot_of other)) ds
+numbers_differ ds up apart = λ i j d ij jn number.
+    let one : Entry = get_or ds i d in
+    let other : Entry = get_or ds j d in
+    let less = Less-from_sorted canonical_cmp (map (λ (x : Entry). x.1) ds) i j d.1 up ij (omega (arith, jn, length-map ds (λ (x : Entry). x.1))) in
+    let below : canonical_cmp one.1 other.1 ≡ Less = rw (get_or-map (λ (x : Entry). x.1) ds i d d.1 (omega arith), get_or-map (λ (x : Entry). x.1) ds j d d.1 jn) at less in
+    let there : Contains ds (one.0, other.1) = subst (λ n. Contains ds (n, other.1)) (sym number) (Contains-get_or ds j d jn) in
+    let same : one.1 ≡ other.1 = apart one.0 one.1 other.1 (Contains-get_or ds i d (omega arith)) there in
+    same_twice one.1 (subst (λ (x : Observation). canonical_cmp one.1 x ≡ Less) (sym same) below)
+
+labels_differ : (log : LogData) (night : ℤ) → IsOrderly log → EachTwo HaveOtherLabels (spots_of_night log night)
+labels_differ log night o =
+    each_two_map HaveOtherLabels spot_of (detections_of (of_night log.night_shift night log.exposures))
+    (rw (filtered log night log.exposures o.of_one) (AllPairs-filter (λ (one other : Entry). HaveOtherLabels (spot_of one) (spot_of other)) (of_night_entry log night) (detections_of log.exposures) (numbers_differ (detections_of log.exposures) o.in_order o.numbers)))
+
+-- no two tracklets of a night have spots of the same labels
+pub labels_of_night : (s : LinkerState) (night : ℤ) → IsOrderly s.log → EachTwo (λ (one other : List SpotData). map (λ (spot : SpotData). spot.num) one ≡ map (λ (spot : SpotData). spot.num) other → ⊥) (night_data s night).tracklets
+labels_of_night s night o =
+    let spots : List SpotData = spots_of_night s.log night in
+    let sets : List (List ℕ) = in_order (sets_of s.settings spots) in
+    let each : All (IsSet spots) sets = all_in_order (IsSet spots) (sets_of s.settings spots) (are_sets s.settings spots) in
+    each_two_map (λ (one other : List SpotData). map label one ≡ map label other → ⊥) (spots_at spots) sets (λ i j d ij jn e.
+    let one : List ℕ = get_or sets i d in
+    let other : List ℕ = get_or sets j d in
+    let within_one : All (λ p. p < length spots) one = (each i d (omega arith)).within in
+    let within_other : All (λ p. p < length spots) other = (each j d jn).within in
+    let same : one ≡ other = same_of_mapped (label_at spots) (length spots) (λ p q. same_label spots p q (labels_differ s.log night o)) one other within_one within_other (sym (labels_at spots one within_one) ∙ (e ∙ labels_at spots other within_other)) in
+    never_itself one (subst (Comes one) (sym same) (sets_rise (sets_of s.settings spots) i j d ij jn)))
 
 -- no kept night has a tracklet twice
 abbrev pub HaveEachOnce : List NightTracklets → Type 0

@@ -4,7 +4,7 @@ use Rattle.std.specs.List.{All, Contains, filter, list_any}
 use Rattle.std.specs.Ordering.{int_eq}
 use Rattle.std.proofs.lemmas.Bool.{cases_Bool, false≢true, or_parts}
 use Rattle.std.proofs.lemmas.Bool.Decides.{Decides-int_eq}
-use Rattle.std.proofs.lemmas.List.Elements.{All-contains, All-head, All-nil, All-push, All-tail, Contains-append_left, Contains-push}
+use Rattle.std.proofs.lemmas.List.Elements.{All-cons, All-contains, All-head, All-nil, All-push, All-tail, Contains-append_left, Contains-get_or, Contains-push}
 use Rattle.std.proofs.lemmas.List.Folds.{list_any-append}
 use Rattle.sky_math.specs.Night.{night_at}
 use Rattle.sky_units.specs.SettingsData.{SettingsData}
@@ -15,11 +15,12 @@ use Rattle.exposure_log.specs.declared.errors.AddError.{AddError}
 use Rattle.exposure_log.specs.declared.outcomes.Outcome.{Outcome}
 use Rattle.exposure_log.specs.declared.outcomes.Outcome.TheVariants.{Taken, Refused}
 use Rattle.night_tree.specs.Nights.{NightData}
+use Rattle.night_tree.proofs.EachTwoOf.{each_two_append}
 use Rattle.plain_tracks.proofs.Entries.{front_or_rest, in_front, in_rest}
 use Rattle.plain_tracks.proofs.Steps.{in_none}
 use Rattle.kept_nights.specs.LinkerState.{LinkerState}
 use Rattle.kept_nights.specs.KeptNights.{is_held_night, night_data, nights_of, with_night, RiseByNumber}
-use Rattle.kept_nights.specs.Renewed.{AreRenewed, IsNightOf, NightsFollow, lies_in, with_nights}
+use Rattle.kept_nights.specs.Renewed.{AreRenewed, HaveDifferentNumbers, IsNightOf, NightsFollow, lies_in, with_nights}
 use Rattle.kept_nights.proofs.KeptNights.{at_epoch, is_in, in_it, member_is, member_of, numbers_rise, same_data, same_held, same_nights}
 use Rattle.kept_nights.proofs.WithNight.{still_rise, with_members}
 
@@ -50,10 +51,10 @@ pub none_left : (rest nights all : List NightData) → length rest ≡ 0 → wit
 none_left [] nights all none e = e
 none_left (night ∷ rest) nights all none e = absurd (omega (arith, none))
 
-abbrev OfOther : List NightData → NightData → Type 0
+abbrev pub OfOther : List NightData → NightData → Type 0
 OfOther more x = (other : NightData) → Contains more other → x.number ≡ other.number → ⊥
 
-come_from : (more nights : List NightData) (x : NightData) → Contains (with_nights more nights) x → Contains more x ⊎ (Contains nights x × OfOther more x)
+pub come_from : (more nights : List NightData) (x : NightData) → Contains (with_nights more nights) x → Contains more x ⊎ (Contains nights x × OfOther more x)
 come_from [] nights x c = inr (c, λ other d. absurd (in_none other d))
 come_from (night ∷ more) nights x c = elim ((with_members night (with_nights more nights) x).0 c) [
   | inl e ↦ inl (subst (Contains (night ∷ more)) e (in_front night more))
@@ -113,7 +114,7 @@ module _ (settings : SettingsData) (log : LogData) (outcomes : List Outcome) (ch
   alike : (night : ℤ) → list_any (lies_in log.night_shift night) outcomes ≡ false → night_data old night ≡ night_data now night
   alike night none = same_data now stays log.window night (wider night none)
 
-  all_renewed : IsOrderly log → IsOrderly old_log → AreRenewed now outcomes changed → with_nights changed (nights_of old) ≡ nights_of now
+  pub all_renewed : IsOrderly log → IsOrderly old_log → AreRenewed now outcomes changed → with_nights changed (nights_of old) ≡ nights_of now
   all_renewed o before r =
       same_nights now (with_nights changed (nights_of old)) o (rise_all changed (nights_of old) (numbers_rise old))
       (λ kept c. elim (come_from changed (nights_of old) kept c) [
@@ -137,8 +138,11 @@ module _ (settings : SettingsData) (log : LogData) (outcomes : List Outcome) (ch
       e ∙ (ap (with_nights changed) (is ∙ ap (λ (l : LogData). nights_of (record { settings = settings; log = l })) came.undone) ∙ all_renewed o (subst IsOrderly came.undone orderly) r)
 
 -- ---- the nights of some outcomes
+abbrev DifferInNumber : NightData → NightData → Type 0
+DifferInNumber one other = one.number ≡ other.number → ⊥
+
 pub renewed_none : (s : LinkerState) → AreRenewed s [] []
-renewed_none s = record { are = All-nil (IsNightOf s); each = λ night h. absurd (false≢true h) }
+renewed_none s = record { are = All-nil (IsNightOf s); once = λ i j d ij jl. absurd (omega (arith, jl)); each = λ night h. absurd (false≢true h) }
 
 or_false : (a : Bool) → (a || false) ≡ a
 or_false true = refl
@@ -159,23 +163,25 @@ by_last s before outcome night P h f g =
 pub refused_too : (s : LinkerState) (before : List Outcome) (cause : AddError) (back : ExposureData) (changed : List NightData) → AreRenewed s before changed → AreRenewed s (before ++ Refused cause back ∷ []) changed
 refused_too s before cause back changed r = record {
   are = r.are;
+  once = r.once;
   each = λ night h. by_last s before (Refused cause back) night (Contains changed (night_data s night)) h (r.each night) (λ no. absurd (false≢true no));
 }
 
-taken_with : (s : LinkerState) (before : List Outcome) (epoch : ℤ) (site : List ℕ) (count : ℕ) (changed more : List NightData) → AreRenewed s before changed → ((x : NightData) → Contains changed x → Contains more x) → All (IsNightOf s) more
+taken_with : (s : LinkerState) (before : List Outcome) (epoch : ℤ) (site : List ℕ) (count : ℕ) (changed more : List NightData) → AreRenewed s before changed → ((x : NightData) → Contains changed x → Contains more x) → All (IsNightOf s) more → HaveDifferentNumbers more
     → Contains more (night_data s (night_at s.log.night_shift epoch)) → AreRenewed s (before ++ Taken epoch site count ∷ []) more
-taken_with s before epoch site count changed more r keeps are there = record {
+taken_with s before epoch site count changed more r keeps are once there = record {
   are = are;
+  once = once;
   each = λ night h. by_last s before (Taken epoch site count) night (Contains more (night_data s night)) h (λ t. keeps (night_data s night) (r.each night t))
       (λ t. subst (λ (n : ℤ). Contains more (night_data s n)) ((Decides-int_eq (night_at s.log.night_shift epoch) night).0 t) there);
 }
 
--- the night was built last
+-- the night was built before
 pub built_already : (s : LinkerState) (before : List Outcome) (epoch number : ℤ) (site : List ℕ) (count : ℕ) (changed : List NightData) → AreRenewed s before changed → number ≡ night_at s.log.night_shift epoch
     → (night : NightData) × Contains changed night × (night.number ≡ number) → AreRenewed s (before ++ Taken epoch site count ∷ []) changed
 built_already s before epoch number site count changed r e last =
     let is : last.0 ≡ night_data s (night_at s.log.night_shift epoch) = (All-contains (IsNightOf s) changed last.0 r.are last.1).1 ∙ ap (night_data s) (last.2 ∙ e) in
-    taken_with s before epoch site count changed changed r (λ x c. c) r.are (subst (Contains changed) is last.1)
+    taken_with s before epoch site count changed changed r (λ x c. c) r.are r.once (subst (Contains changed) is last.1)
 
 held_there : (shift epoch : ℤ) (site : List ℕ) (xs : List HeldExposure) → list_any (stands_at epoch site) xs ≡ true → list_any (is_in shift (night_at shift epoch)) xs ≡ true
 held_there shift epoch site [] h = h
@@ -191,9 +197,12 @@ held_there shift epoch site (x ∷ xs) h = elim (cases_Bool (stands_at epoch sit
     or_true false = refl
 
 -- the night is built now
-pub built_now : (s : LinkerState) (before : List Outcome) (epoch number : ℤ) (site : List ℕ) (count : ℕ) (changed more : List NightData) (night : NightData) → AreRenewed s before changed → IsThere s.log.exposures (Taken epoch site count) → number ≡ night_at s.log.night_shift epoch
+pub built_now : (s : LinkerState) (before : List Outcome) (epoch number : ℤ) (site : List ℕ) (count : ℕ) (changed more : List NightData) (night : NightData) → AreRenewed s before changed → ((x : NightData) → Contains changed x → ¬ (x.number ≡ number)) → IsThere s.log.exposures (Taken epoch site count) → number ≡ night_at s.log.night_shift epoch
     → night ≡ night_data s number → more ≡ changed ++ night ∷ [] → AreRenewed s (before ++ Taken epoch site count ∷ []) more
-built_now s before epoch number site count changed more night r there e is m =
+built_now s before epoch number site count changed more night r fresh there e is m =
     let here : night ≡ night_data s (night_at s.log.night_shift epoch) = is ∙ ap (night_data s) e in
     let one : IsNightOf s night = subst (IsNightOf s) (sym here) (held_there s.log.night_shift epoch site s.log.exposures there.1, refl) in
-    rw m (taken_with s before epoch site count changed (changed ++ night ∷ []) r (Contains-append_left changed (night ∷ [])) (All-push (IsNightOf s) changed night r.are one) (subst (Contains (changed ++ night ∷ [])) here (Contains-push changed night)))
+    let once : HaveDifferentNumbers (changed ++ night ∷ []) =
+    each_two_append DifferInNumber changed (night ∷ []) r.once (λ i j d ij jl. absurd (omega (arith, ij, jl)))
+    (λ k d kl. All-cons (DifferInNumber (get_or changed k d)) night [] (λ same. fresh (get_or changed k d) (Contains-get_or changed k d kl) (same ∙ ap (λ (n : NightData). n.number) is)) (All-nil (DifferInNumber (get_or changed k d)))) in
+    rw m (taken_with s before epoch site count changed (changed ++ night ∷ []) r (Contains-append_left changed (night ∷ [])) (All-push (IsNightOf s) changed night r.are one) once (subst (Contains (changed ++ night ∷ [])) here (Contains-push changed night)))

@@ -1,5 +1,5 @@
 -- The nights that a linker keeps: one for each night with held exposures.
-use Rattle.std.specs.Prelude.{ℤ, pos, ◌+ℤ◌, ◌<ℤ◌, Bool, List, [], ◌∷◌, ◌++◌, map}
+use Rattle.std.specs.Prelude.{ℤ, pos, ◌+ℤ◌, ◌<ℤ◌, Bool, not, List, [], ◌∷◌, ◌++◌, map}
 use Rattle.std.specs.Int.{int_gap}
 use Rattle.std.specs.Int.Signed.{lt_z}
 use Rattle.std.specs.List.{filter, list_any}
@@ -39,3 +39,7 @@ RiseByNumber nights = EachTwo (λ (one later : NightData). one.number <ℤ later
 -- the nights with one more, in place of that of its number
 abbrev pub with_night : NightData → List NightData → List NightData
 with_night night nights = filter (λ (kept : NightData). lt_z kept.number night.number) nights ++ night ∷ filter (λ (kept : NightData). lt_z night.number kept.number) nights
+
+-- the nights without that of a number
+abbrev pub without_night : ℤ → List NightData → List NightData
+without_night number nights = filter (λ (night : NightData). not (int_eq night.number number)) nights

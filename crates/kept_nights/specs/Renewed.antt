@@ -2,6 +2,7 @@
 use Rattle.std.specs.Prelude.{◌≡◌, ℤ, Bool, true, false, List, [], ◌∷◌}
 use Rattle.std.specs.List.{All, Contains, list_any}
 use Rattle.std.specs.Ordering.{int_eq}
+use Rattle.sky_math.specs.Lists.{EachTwo}
 use Rattle.sky_math.specs.Night.{night_at}
 use Rattle.sky_units.specs.SettingsData.{SettingsData}
 use Rattle.exposure_log.specs.Held.{LogData}
@@ -22,9 +23,14 @@ lies_in shift night (Refused cause back) = false
 abbrev pub IsNightOf : LinkerState → NightData → Type 0
 IsNightOf s kept = (is_held_night s.log kept.number ≡ true) × (kept ≡ night_data s kept.number)
 
--- nights with held exposures, those of the outcomes among them
+-- no two nights have one number
+abbrev pub HaveDifferentNumbers : List NightData → Type 0
+HaveDifferentNumbers nights = EachTwo (λ (one other : NightData). one.number ≡ other.number → ⊥) nights
+
+-- nights with held exposures, each once, those of the outcomes among them
 pub record AreRenewed (s : LinkerState) (outcomes : List Outcome) (nights : List NightData) : Type 0 where
   pub are : All (IsNightOf s) nights
+  pub once : HaveDifferentNumbers nights
   pub each : (night : ℤ) → list_any (lies_in s.log.night_shift night) outcomes ≡ true → Contains nights (night_data s night)
 
 -- the nights with some more, each in place of that of its number

@@ -1,5 +1,5 @@
 //! The kept nights: one for each night with held exposures, in order of time.
-ghost use Rattle.std.specs.Prelude.{◌≡◌, ◌+◌, ◌<◌, ◌≤◌, ◌<ℤ◌, ◌++◌, [], ◌∷◌, List, not, length, slice_index_or, IsTrue, OnOk, OnErr, IfOk, IfErr, option_copied};
+ghost use Rattle.std.specs.Prelude.{◌≡◌, ◌+◌, ◌<◌, ◌≤◌, ◌<ℤ◌, ◌++◌, [], ◌∷◌, List, not, length, slice_index_or, MatchBool, OnOk, OnErr, IfOk, IfErr, option_copied};
 ghost use Rattle.std.specs.Vec.{vec_len, vec_capacity};
 ghost use Rattle.std.specs.Int.Signed.{lt_z};
 ghost use Rattle.std.specs.List.{All, Contains, filter, find};
@@ -12,7 +12,7 @@ ghost use Rattle.exposure_log.specs.Orderly.{IsOrderly};
 ghost use Rattle.exposure_log.specs.Outcomes.{IsThere, without_taken};
 ghost use Rattle.exposure_log.specs.declared.outcomes.Outcome.{Outcome as OutcomeData};
 ghost use Rattle.night_tree.specs.Nights.{NightData};
-ghost use Rattle.kept_nights.specs.KeptNights.{RiseByNumber, night_data, with_night};
+ghost use Rattle.kept_nights.specs.KeptNights.{RiseByNumber, night_data, with_night, without_night};
 ghost use Rattle.kept_nights.specs.Renewed.{AreRenewed, NightsFollow, with_nights};
 
 use exposure_log::{ExposureLog, Outcome, take_out_all};
@@ -79,8 +79,8 @@ fn renew(
     Ok(())
 }
 
-/// The night of this number, built from what the log holds of it.
-fn built(
+/// The night of this number, built from what the log holds of it (the definition `night_data`).
+pub fn built(
     alloc: Global,
     log: &ExposureLog,
     number: i64,
@@ -149,8 +149,8 @@ fn renew_all(
     Ok(())
 }
 
-/// The nights of the exposures that were taken, built from what the log holds of them.
-fn changed_nights(
+/// The nights of the exposures that were taken, each once, built from what the log holds of them.
+pub fn changed_nights(
     alloc: Global,
     log: &ExposureLog,
     outcomes: &[Outcome],
@@ -169,7 +169,7 @@ fn changed_nights(
     Ok(changed)
 }
 
-/// Builds the night of an exposure that was taken, unless it is the one that was built last.
+/// Builds the night of an exposure that was taken, unless it is built already.
 fn add_night(
     changed: &mut Vec<Night>,
     alloc: Global,
@@ -188,7 +188,7 @@ fn add_night(
     match outcome {
         Outcome::Taken(epoch, _, _) => {
             let number = night_of(*epoch, settings.night_shift);
-            if is_last(changed.as_slice(), number) {
+            if is_built(changed.as_slice(), number) {
                 return Ok(());
             }
             changed.push(built(alloc, log, number, settings)?)?;
@@ -198,19 +198,20 @@ fn add_night(
     }
 }
 
-/// Whether the last of some nights has this number.
-fn is_last(nights: &[Night], number: i64) -> bool
-    ensures { IsTrue result → (night : NightData) × Contains nights.now night ×
-        (night.number ≡ number) }
+/// Whether there is a night of this number.
+fn is_built(nights: &[Night], number: i64) -> bool
+    ensures { MatchBool result
+        ((night : NightData) × Contains nights.now night × (night.number ≡ number))
+        ((night : NightData) → Contains nights.now night → ¬ (night.number ≡ number)) }
 {
-    match nights.last() {
-        Some(night) => night.number() == number,
+    match night_of_number(nights, number) {
+        Some(_) => true,
         None => false,
     }
 }
 
 /// Keeps nights, each in place of the one of its number. There is room for them.
-fn put_all(nights: &mut Vec<Night>, more: Vec<Night>)
+pub fn put_all(nights: &mut Vec<Night>, more: Vec<Night>)
     requires rising { RiseByNumber nights.old.items }
     requires room { vec_len nights.old + vec_len more ≤ vec_capacity nights.old }
     ensures { nights.new.items ≡ with_nights more.items nights.old.items }
@@ -223,7 +224,7 @@ fn put_all(nights: &mut Vec<Night>, more: Vec<Night>)
 
 /// Keeps a night in place of the one of its number. There is room for one more.
 #[tactic(auto, using(crate::proofs::WithNight::inserted, crate::proofs::WithNight::replaced))]
-fn put(nights: &mut Vec<Night>, night: Night)
+pub fn put(nights: &mut Vec<Night>, night: Night)
     requires rising { RiseByNumber nights.old.items }
     requires room { vec_len nights.old < vec_capacity nights.old }
     ensures put { nights.new.items ≡ with_night night nights.old.items }
@@ -248,6 +249,13 @@ fn place_for(nights: &[Night], night: &Night) -> Result<usize, usize>
         (λ kept. night.now.number <ℤ kept.number) nights.now i) }
 {
     nights.binary_search_by(|kept| kept.number().cmp(&night.number()))
+}
+
+/// Drops the night of a number.
+pub fn let_go(nights: &mut Vec<Night>, number: i64)
+    ensures { nights.new.items ≡ without_night number nights.old.items }
+{
+    nights.retain(|night| night.number() != number);
 }
 
 /// Drops the nights before this one.

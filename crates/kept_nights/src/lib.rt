@@ -2,7 +2,10 @@
 //! of its held detections. An exposure that comes renews its own night and no other.
 #![tactic(auto)]
 
-pub use keeping::{forget_before, night_of_number, renew_all_or_remove, renew_or_remove};
+pub use keeping::{
+    built, changed_nights, forget_before, let_go, night_of_number, put, put_all,
+    renew_all_or_remove, renew_or_remove,
+};
 
 mod keeping;
 #[cfg(test)]

@@ -26,6 +26,7 @@ pub Runs-watch : (status : Status) (source_old source_new : Supply) (sink_old si
 Runs-watch status source_old source_new sink_old sink_new reads = record {
   whole = reads.whole;
   front = reads.front;
+  part = reads.part;
   spent = under_condition (refused_by status) (ReadsInput Watch) (IsSpent source_new) reads.spent;
   flushed = reads.flushed;
   source_faults = reads.source_faults;
@@ -38,6 +39,7 @@ pub Runs-link : (status : Status) (source_old source_new : Supply) (sink_old sin
 Runs-link status source_old source_new sink_old sink_new reads = record {
   whole = reads.whole;
   front = reads.front;
+  part = reads.part;
   spent = under_condition (refused_by status) (ReadsInput Link) (IsSpent source_new) reads.spent;
   flushed = reads.flushed;
   source_faults = reads.source_faults;
@@ -62,6 +64,7 @@ unread_runs : (form : Form) (status : Status) (source : Supply) (old new : Recei
 unread_runs form Done source old new ends unread whole front flushed faults = record {
   whole = whole refl;
   front = front;
+  part = λ stops. absurd stops.1;
   spent = λ reads. absurd (unread reads);
   flushed = λ _. flushed refl;
   source_faults = refl;
@@ -72,6 +75,7 @@ unread_runs form Done source old new ends unread whole front flushed faults = re
 unread_runs form WriteFault source old new ends unread whole front flushed faults = record {
   whole = tt;
   front = front;
+  part = λ stops. absurd stops.1;
   spent = tt;
   flushed = λ no. absurd no;
   source_faults = refl;
@@ -82,6 +86,7 @@ unread_runs form WriteFault source old new ends unread whole front flushed fault
 unread_runs form NoMemory source old new ends unread whole front flushed faults = record {
   whole = tt;
   front = front;
+  part = λ stops. absurd stops.1;
   spent = tt;
   flushed = λ no. absurd no;
   source_faults = refl;

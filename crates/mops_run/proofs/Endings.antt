@@ -1,10 +1,10 @@
 -- How a run ends, by its status.
-use Rattle.std.proofs.Common.{◌≡◌, ℕ, ◌+◌, ◌^◌, [], refl, sym, ◌∙◌, ap, subst, arith, Bool, true, false}
+use Rattle.std.proofs.Common.{◌≡◌, ℕ, ◌+◌, ◌^◌, [], ◌∷◌, refl, sym, ◌∙◌, ap, subst, arith, Bool, true, false}
 use Rattle.std.specs.Prelude.{IfSome, Some, Result, Ok, Err, ◌↔◌, ◌||◌}
 use Rattle.std.specs.Io.KnownBytes.{IsAtEnd}
 use Rattle.outer_io.specs.Supply.{Supply, Rises}
 use Rattle.outer_io.specs.Receipt.{Receipt}
-use Rattle.outer_io.specs.Reading.{Reading, ahead, CountsOn, Ends, FaultsAfter}
+use Rattle.outer_io.specs.Reading.{Reading, ahead, CountsOn, Ends, FaultsAfter, SawNoLine}
 use Rattle.outer_io.specs.declared.line_reader.Got.{Got}
 use Rattle.outer_io.specs.declared.line_reader.Got.TheVariants.{End}
 use Rattle.outer_io.specs.declared.line_reader.ReadStop.{ReadStop}
@@ -12,22 +12,25 @@ use Rattle.outer_io.specs.declared.line_reader.ReadStop.TheVariants.{Failed, Too
 use Rattle.mops_run.specs.State.{State}
 use Rattle.mops_run.specs.Output.{text_of_all}
 use Rattle.mops_run.specs.Answering.{FailsToAnswer, Finished, FailsToFinish}
+use Rattle.mops_run.specs.Lines.{said_by}
+use Rattle.mops_run.specs.Part.{StopsReading}
 use Rattle.mops_run.specs.Promise.{WritesAll, WritesFront, Reads, IsSpent, SourceFaults, SinkFaults, refused_by, done_status}
 use Rattle.mops_run.specs.declared.top.Status.{Status}
 use Rattle.mops_run.specs.declared.top.Status.TheVariants.{Done, DoneWithRefusals, Usage, ReadFault, WriteFault, NoMemory, InputTooLong}
 use Rattle.mops_run.specs.declared.inputs.Input.{Input}
 use Rattle.mops_run.proofs.Receipts.{WritesText-then}
-use Rattle.mops_run.proofs.SoFar.{SoFar, NextLine, WritesFront-so_far, WritesFront-failed, WritesFront-unfinished, WritesFront-whole, WritesAll-end, Takes-within, Takes-too_long, or_true}
+use Rattle.mops_run.proofs.SoFar.{SoFar, NextLine, WritesFront-so_far, WritesFront-failed, WritesFront-unfinished, WritesFront-whole, WritesAll-end, WritesTaken-so_far, Takes-within, Takes-too_long, or_true}
 
 -- a write failed in the middle of the replies to a line
 pub Reads-write_fault : (kind : Input) (source_old : Supply) (reader reader' : Reading) (source source' : Supply) (sink_old sink sink' : Receipt) (number : ℕ) (state : State) (refused : Bool)
     → SoFar kind source_old reader source sink_old sink number state refused → NextLine reader reader' source source'
-    → FailsToAnswer kind (number + 1) state reader'.line sink sink' → Reads kind WriteFault source_old source' sink_old sink'
+    → FailsToAnswer kind (number + 1) state (said_by reader'.line) sink sink' → Reads kind WriteFault source_old source' sink_old sink'
 Reads-write_fault kind source_old reader reader' source source' sink_old sink sink' number state refused so next failed =
     let faults : sink.faults ≡ sink_old.faults = so.adds.faults in
     record {
       whole = tt;
       front = WritesFront-failed kind source_old reader reader' source source' sink_old sink sink' number state refused so next failed;
+      part = λ stops. absurd stops.1;
       spent = tt;
       flushed = λ no. absurd no;
       source_faults = next.faults ∙ so.faults;
@@ -44,6 +47,7 @@ Reads-no_memory kind source_old reader reader' source source' sink_old sink sink
   whole = tt;
   front = subst (λ (r : Receipt). IfSome source_old.left (λ input. WritesFront kind input sink_old r)) (sym same)
       (WritesFront-so_far kind source_old reader source sink_old sink number state refused so);
+  part = λ stops. absurd stops.1;
   spent = tt;
   flushed = λ no. absurd no;
   source_faults = next.faults ∙ so.faults;
@@ -52,16 +56,33 @@ Reads-no_memory kind source_old reader reader' source source' sink_old sink sink
   used = λ h. cc;
 }
 
+-- the end was not answered before
+not_ended : (ended : Bool) (result : Result Got ReadStop) → (ended ≡ true → result ≡ Ok End) → (result ≡ Ok End → ⊥) → ended ≡ false
+not_ended true result over other = absurd (other (over refl))
+not_ended false result over other = refl
+
+-- a run that is done has read to the end
+done_reads_on : (status : Status) (refused : Bool) → refused_by status ≡ Some refused → StopsReading status → ⊥
+done_reads_on Done refused by stops = stops.1
+done_reads_on DoneWithRefusals refused by stops = stops.1
+done_reads_on Usage refused by stops = stops.1
+done_reads_on WriteFault refused by stops = stops.1
+done_reads_on NoMemory refused by stops = stops.1
+done_reads_on ReadFault refused by stops = cc
+done_reads_on InputTooLong refused by stops = cc
+
 -- a read failed behind the last whole line
 pub Reads-read_fault : (kind : Input) (source_old : Supply) (reader reader' : Reading) (source source' : Supply) (sink_old sink : Receipt) (number : ℕ) (state : State) (refused : Bool)
     (result : Result Got ReadStop) → SoFar kind source_old reader source sink_old sink number state refused → result ≡ Err Failed
+    → (reader.ended ≡ true → result ≡ Ok End) → (result ≡ Err Failed → SawNoLine reader reader' source source' [])
     → FaultsAfter result source.faults source'.faults → CountsOn reader reader' source source' → ((result ≡ Err TooLong) ↔ (reader'.took ≡ 2 ^ 32))
     → Reads kind ReadFault source_old source' sink_old sink
-Reads-read_fault kind source_old reader reader' source source' sink_old sink number state refused result so is faults counts limit =
+Reads-read_fault kind source_old reader reader' source source' sink_old sink number state refused result so is over saw faults counts limit =
     let rises : Rises source.faults source'.faults = subst (λ (r : Result Got ReadStop). FaultsAfter r source.faults source'.faults) is faults in
     record {
       whole = tt;
       front = WritesFront-so_far kind source_old reader source sink_old sink number state refused so;
+      part = λ _. WritesTaken-so_far kind ReadFault source_old reader reader' source source' sink_old sink number state refused [] so (not_ended reader.ended result over (λ h. cc)) (saw is) refl;
       spent = tt;
       flushed = λ _. so.adds.whole;
       source_faults = subst (λ n. Rises n source'.faults) so.faults rises;
@@ -74,13 +95,15 @@ Reads-read_fault kind source_old reader reader' source source' sink_old sink num
 -- a byte came behind as many as an input may have
 pub Reads-too_long : (kind : Input) (source_old : Supply) (reader reader' : Reading) (source source' : Supply) (sink_old sink : Receipt) (number : ℕ) (state : State) (refused : Bool)
     (result : Result Got ReadStop) → SoFar kind source_old reader source sink_old sink number state refused → result ≡ Err TooLong
+    → (reader.ended ≡ true → result ≡ Ok End) → (result ≡ Err TooLong → (extra : ℕ) × SawNoLine reader reader' source source' (extra ∷ []))
     → FaultsAfter result source.faults source'.faults → CountsOn reader reader' source source' → ((result ≡ Err TooLong) ↔ (reader'.took ≡ 2 ^ 32))
     → Reads kind InputTooLong source_old source' sink_old sink
-Reads-too_long kind source_old reader reader' source source' sink_old sink number state refused result so is faults counts limit =
+Reads-too_long kind source_old reader reader' source source' sink_old sink number state refused result so is over saw faults counts limit =
     let same : source'.faults ≡ source.faults = subst (λ (r : Result Got ReadStop). FaultsAfter r source.faults source'.faults) is faults in
     record {
       whole = tt;
       front = WritesFront-so_far kind source_old reader source sink_old sink number state refused so;
+      part = λ _. WritesTaken-so_far kind InputTooLong source_old reader reader' source source' sink_old sink number state refused ((saw is).0 ∷ []) so (not_ended reader.ended result over (λ h. cc)) (saw is).1 refl;
       spent = tt;
       flushed = λ _. so.adds.whole;
       source_faults = same ∙ so.faults;
@@ -135,6 +158,7 @@ finished_by kind status source_old reader reader' source source' sink_old sink s
     record {
       whole = rw by whole;
       front = WritesFront-whole kind source_old.left sink_old sink' (refused || bad) whole;
+      part = λ stops. absurd (done_reads_on status (refused || bad) by stops);
       spent = rw by over.spent;
       flushed = λ _. adds.whole;
       source_faults = source_faults over.faults;
@@ -162,6 +186,7 @@ Reads-unfinished kind source_old reader reader' source source' sink_old sink sin
     record {
       whole = tt;
       front = WritesFront-unfinished kind source_old reader source sink_old sink sink' number state refused so over.none_ahead failed;
+      part = λ stops. absurd stops.1;
       spent = tt;
       flushed = λ no. absurd no;
       source_faults = over.faults;
@@ -178,6 +203,7 @@ Reads-no_memory_left kind source_old reader reader' source source' sink_old sink
   whole = tt;
   front = subst (λ (r : Receipt). IfSome source_old.left (λ input. WritesFront kind input sink_old r)) (sym same)
       (WritesFront-so_far kind source_old reader source sink_old sink number state refused so);
+  part = λ stops. absurd stops.1;
   spent = tt;
   flushed = λ no. absurd no;
   source_faults = over.faults;

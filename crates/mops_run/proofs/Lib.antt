@@ -1,4 +1,5 @@
 pub mod Receipts
+pub mod EndedLines
 pub mod TextByLines
 pub mod Words
 pub mod LeastNights

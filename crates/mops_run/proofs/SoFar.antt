@@ -1,15 +1,18 @@
 -- What holds of a run between two lines.
-use Rattle.std.proofs.Common.{◌≡◌, ℕ, ◌+◌, ◌^◌, ◌<◌, ◌≤◌, ◌++◌, List, [], ◌∷◌, length, refl, sym, ◌∙◌, ap, subst, append_assoc, append-nil, arith, Bool, true, false, ◌||◌, inl, inr, length-append, lit<}
+use Rattle.std.proofs.Common.{◌≡◌, ℕ, ◌+◌, ◌^◌, ◌<◌, ◌≤◌, ◌++◌, List, [], ◌∷◌, length, map, refl, sym, ◌∙◌, ap, subst, append_assoc, append-nil, arith, Bool, true, false, ◌||◌, inl, inr, length-append, lit<}
 use Rattle.std.specs.Prelude.{◌⊎◌, Option, Some, None, IfSome, IsSomeAnd, Result, Ok, Err, ◌↔◌}
-use Rattle.std.specs.List.{list_any}
-use Rattle.std.specs.Str.Lines.{lines}
+use Rattle.std.specs.List.{flat_map, list_any}
+use Rattle.std.specs.Str.Lines.{lines, strip_carriage_return}
+use Rattle.std.proofs.lemmas.List.{map-append}
+use Rattle.std.proofs.lemmas.List.Elements.{All-append, All-cons, All-nil}
 use Rattle.std.specs.Io.KnownBytes.{Consumes, IsAtEnd, prepend_known}
 use Rattle.std.proofs.KnownBytes.{Appends-nil, Appends-trans, Consumes-nil, Consumes-trans}
 use Rattle.std.proofs.lemmas.List.Folds.{list_any-append}
 use Rattle.std.proofs.lemmas.Grind.{flat_map-append}
 use Rattle.outer_io.specs.Supply.{Supply, risen}
 use Rattle.outer_io.specs.Receipt.{Receipt, IsFlushed}
-use Rattle.outer_io.specs.Reading.{Reading, ahead, used, fresh, HandsOut, CountsOn, Ends, FaultsAfter}
+use Rattle.outer_io.specs.Reading.{Reading, ahead, used, fresh, BeginsWithLine, HandsOut, SawNoLine, CountsOn, Ends, FaultsAfter}
+use Rattle.outer_io.specs.Seen.{NoFeed}
 use Rattle.outer_io.specs.declared.line_reader.Got.{Got}
 use Rattle.outer_io.specs.declared.line_reader.Got.TheVariants.{Line, End}
 use Rattle.outer_io.specs.declared.line_reader.ReadStop.{ReadStop}
@@ -26,6 +29,7 @@ use Rattle.track_report.specs.Texts.{text_of}
 use Rattle.mops_run.specs.Output.{WritesText, WritesTextFront, FailsIn}
 use Rattle.mops_run.specs.Watch.{Answers, AnswersAll}
 use Rattle.mops_run.specs.Answering.{Answered, FailsToAnswer, Finished, FailsToFinish}
+use Rattle.mops_run.specs.Part.{BeginWithLines, IsBeyond, WritesTaken, with_feed}
 use Rattle.mops_run.specs.Promise.{WritesAll, WritesFront, Takes}
 use Rattle.mops_run.specs.declared.top.Status.{Status}
 use Rattle.mops_run.specs.declared.top.Status.TheVariants.{InputTooLong}
@@ -38,9 +42,9 @@ use Rattle.mops_run.proofs.Cut.{script_line_of-take}
 use Rattle.mops_run.proofs.Agreement.{Answers-only, AnswersAll-only}
 use Rattle.mops_run.proofs.Runs.{Answers-append, Answers-split}
 
--- the lines of an input that is told are those seen and those ahead
-abbrev pub Tells : Option (List ℕ) → Option (List ℕ) → List (List ℕ) → Type 0
-Tells input bytes seen = IfSome input (λ all. IsSomeAnd bytes (λ rest. lines all ≡ seen ++ lines rest))
+-- the lines of an input that is told are those seen and those ahead; before the end a line feed ends each line that was seen
+abbrev pub Tells : Option (List ℕ) → Option (List ℕ) → List (List ℕ) → Bool → Type 0
+Tells input bytes seen ended = IfSome input (λ all. IsSomeAnd bytes (λ rest. (lines all ≡ seen ++ lines rest) × (ended ≡ false → BeginWithLines all seen rest)))
 
 -- so many bytes were taken from a source, and they were its next ones
 pub record TakesBytes (old new : Supply) (count : ℕ) : Type 0 where
@@ -58,7 +62,7 @@ pub record SoFar (kind : Input) (source_old : Supply) (reader : Reading) (source
   pub few : length state.waiting ≤ number
   pub adds : WritesText sink_old sink (text_of_all replies)
   pub refused_is : refused ≡ list_any is_refusal replies
-  pub tells : Tells source_old.left (ahead reader source) seen
+  pub tells : Tells source_old.left (ahead reader source) seen reader.ended
   pub passed : number ≤ used reader
   pub taken : TakesBytes source_old source reader.took
   pub within : reader.took < 2 ^ 32
@@ -85,9 +89,9 @@ SoFar-start kind source sink = record {
   faults = refl;
 }
   where
-    told : (left : Option (List ℕ)) → Tells left (prepend_known [] left) []
+    told : (left : Option (List ℕ)) → Tells left (prepend_known [] left) [] false
     told None = tt
-    told (Some bytes) = refl
+    told (Some bytes) = (refl, λ _. record { raw = []; each = All-nil NoFeed; parts = refl; contents_are = refl })
 
 -- a step of the reader to a line, from before the end
 pub record NextLine (reader reader' : Reading) (source source' : Supply) : Type 0 where
@@ -100,16 +104,40 @@ pub record NextLine (reader reader' : Reading) (source source' : Supply) : Type 
   pub unstopped : reader'.stopped ≡ false
   pub faults : source'.faults ≡ source.faults
 
+-- one more line that a line feed ends
+front_more : (all bytes rest content : List ℕ) (seen : List (List ℕ)) (last : Bool) → BeginWithLines all seen bytes → BeginsWithLine bytes content rest last
+    → last ≡ false → BeginWithLines all (seen ++ content ∷ []) rest
+front_more all bytes rest content seen true front begins is = cc
+front_more all bytes rest content seen false front begins is =
+    let raw : List ℕ = begins.0 in
+    let none : NoFeed raw = begins.1 in
+    let one : flat_map with_feed (raw ∷ []) ≡ raw ++ 10 ∷ [] = append-nil (raw ++ 10 ∷ []) in
+    record {
+      raw = front.raw ++ raw ∷ [];
+      each = All-append NoFeed front.raw (raw ∷ []) front.each (All-cons NoFeed raw [] none (All-nil NoFeed));
+      parts = front.parts ∙ ap (λ xs. flat_map with_feed front.raw ++ xs) (begins.2 ∙ sym (append_assoc raw (10 ∷ []) rest) ∙ ap (λ xs. xs ++ rest) (sym one))
+          ∙ sym (append_assoc (flat_map with_feed front.raw) (flat_map with_feed (raw ∷ [])) rest)
+          ∙ ap (λ xs. xs ++ rest) (sym (flat_map-append with_feed front.raw (raw ∷ [])));
+      contents_are = ap (λ xs. xs ++ content ∷ []) front.contents_are ∙ ap (λ x. map strip_carriage_return front.raw ++ x ∷ []) begins.3
+          ∙ sym (map-append strip_carriage_return front.raw (raw ∷ []));
+    }
+
 -- one more line of an input that is told; where it isn't, what was handed out stands for it
-tells_more : (input bytes rest : Option (List ℕ)) (seen : List (List ℕ)) (line : List ℕ) (last : Bool) → Tells input bytes seen
+tells_more : (input bytes rest : Option (List ℕ)) (seen : List (List ℕ)) (line : List ℕ) (was last : Bool) → was ≡ false → Tells input bytes seen was
     → IfSome bytes (λ xs. IsSomeAnd rest (λ ys. HandsOut xs line ys last))
-    → (content : List ℕ) × (said_by line ≡ said_by content) × Tells input rest (seen ++ content ∷ [])
-tells_more None bytes rest seen line last tells next = (line, refl, tt)
-tells_more (Some all) None rest seen line last tells next = absurd tells
-tells_more (Some all) (Some xs) None seen line last tells next = absurd next
-tells_more (Some all) (Some xs) (Some ys) seen line last tells next =
-    let first : lines xs ≡ next.content ∷ lines ys = next.first in
-    (next.content, ap said_by next.cut ∙ ap said_of (script_line_of-take next.content), tells ∙ ap (λ ls. seen ++ ls) first ∙ sym (append_assoc seen (next.content ∷ []) (lines ys)))
+    → (content : List ℕ) × (said_by line ≡ said_by content) × Tells input rest (seen ++ content ∷ []) last
+tells_more None bytes rest seen line was last not_ended tells next = (line, refl, tt)
+tells_more (Some all) None rest seen line was last not_ended tells next = absurd tells
+tells_more (Some all) (Some xs) None seen line was last not_ended tells next = absurd next
+tells_more (Some all) (Some xs) (Some ys) seen line was last not_ended tells next =
+    let first : lines xs ≡ next.content ∷ lines ys = next.first in (
+      next.content,
+      ap said_by next.cut ∙ ap said_of (script_line_of-take next.content),
+      (
+        tells.0 ∙ ap (λ ls. seen ++ ls) first ∙ sym (append_assoc seen (next.content ∷ []) (lines ys)),
+        front_more all xs ys next.content seen last (tells.1 not_ended) next.place,
+      ),
+    )
 
 -- one more detection at most waits after a line
 waits_on : (old new : State) → new ≡ old → length new.waiting ≤ length old.waiting + 1
@@ -160,10 +188,10 @@ one_more kind seen content line number state state' so_far given answers counted
 pub SoFar-line : (kind : Input) (source_old : Supply) (reader reader' : Reading) (source source' : Supply) (sink_old sink sink' : Receipt) (number : ℕ)
     (state state' : State) (refused bad refused' : Bool)
     → SoFar kind source_old reader source sink_old sink number state refused → NextLine reader reader' source source'
-    → Answered kind (number + 1) state reader'.line sink sink' bad state' → refused' ≡ (refused || bad)
+    → Answered kind (number + 1) state (said_by reader'.line) sink sink' bad state' → refused' ≡ (refused || bad)
     → SoFar kind source_old reader' source' sink_old sink' (number + 1) state' refused'
 SoFar-line kind source_old reader reader' source source' sink_old sink sink' number state state' refused bad refused' so next answered refused_is =
-    let more = tells_more source_old.left (ahead reader source) (ahead reader' source') so.seen reader'.line reader'.ended so.tells next.line in
+    let more = tells_more source_old.left (ahead reader source) (ahead reader' source') so.seen reader'.line reader.ended reader'.ended next.unended so.tells next.line in
     let texts : text_of_all (so.replies ++ answered.given) ≡ text_of_all so.replies ++ text_of_all answered.given = flat_map-append text_of so.replies answered.given in
     let waiting : length state'.waiting ≤ length state.waiting + 1 = waiting_more kind (number + 1) state state' (said_by reader'.line) answered.given answered.replies in
     let bad_is : bad ≡ list_any is_refusal answered.given = answered.says.refused_is in
@@ -200,11 +228,11 @@ pub WritesFront-so_far : (kind : Input) (source_old : Supply) (reader : Reading)
     → SoFar kind source_old reader source sink_old sink number state refused → IfSome source_old.left (λ input. WritesFront kind input sink_old sink)
 WritesFront-so_far kind source_old reader source sink_old sink number state refused so = front source_old.left (ahead reader source) so.tells
   where
-    front : (input bytes : Option (List ℕ)) → Tells input bytes so.seen → IfSome input (λ all. WritesFront kind all sink_old sink)
+    front : (input bytes : Option (List ℕ)) → Tells input bytes so.seen reader.ended → IfSome input (λ all. WritesFront kind all sink_old sink)
     front None bytes tells = tt
     front (Some all) None tells = absurd tells
     front (Some all) (Some rest) tells = λ given whole.
-        let later = replies_ahead kind so.seen (lines rest) (lines all) so.replies given state tells so.answers whole in
+        let later = replies_ahead kind so.seen (lines rest) (lines all) so.replies given state tells.0 so.answers whole in
         (text_of_all so.replies, text_of_all later.0, ap text_of_all later.1 ∙ flat_map-append text_of so.replies later.0, so.adds.bytes)
 
 -- texts, of which one is cut
@@ -229,21 +257,21 @@ front_of so_far given later all old mid new adds fails parts =
 -- the same where a write failed in the middle of the replies to one more line
 pub WritesFront-failed : (kind : Input) (source_old : Supply) (reader reader' : Reading) (source source' : Supply) (sink_old sink sink' : Receipt) (number : ℕ) (state : State) (refused : Bool)
     → SoFar kind source_old reader source sink_old sink number state refused → NextLine reader reader' source source'
-    → FailsToAnswer kind (number + 1) state reader'.line sink sink' → IfSome source_old.left (λ input. WritesFront kind input sink_old sink')
+    → FailsToAnswer kind (number + 1) state (said_by reader'.line) sink sink' → IfSome source_old.left (λ input. WritesFront kind input sink_old sink')
 WritesFront-failed kind source_old reader reader' source source' sink_old sink sink' number state refused so next failed =
     front source_old.left (ahead reader' source') more.2
   where
-    more : (content : List ℕ) × (said_by reader'.line ≡ said_by content) × Tells source_old.left (ahead reader' source') (so.seen ++ content ∷ [])
-    more = tells_more source_old.left (ahead reader source) (ahead reader' source') so.seen reader'.line reader'.ended so.tells next.line
+    more : (content : List ℕ) × (said_by reader'.line ≡ said_by content) × Tells source_old.left (ahead reader' source') (so.seen ++ content ∷ []) reader'.ended
+    more = tells_more source_old.left (ahead reader source) (ahead reader' source') so.seen reader'.line reader.ended reader'.ended next.unended so.tells next.line
 
     upto : Answers kind 1 start (so.seen ++ more.0 ∷ []) (so.replies ++ failed.given) failed.after
     upto = one_more kind so.seen more.0 reader'.line number state failed.after so.replies failed.given so.answers so.counted more.1 failed.replies
 
-    front : (input bytes : Option (List ℕ)) → Tells input bytes (so.seen ++ more.0 ∷ []) → IfSome input (λ all. WritesFront kind all sink_old sink')
+    front : (input bytes : Option (List ℕ)) → Tells input bytes (so.seen ++ more.0 ∷ []) reader'.ended → IfSome input (λ all. WritesFront kind all sink_old sink')
     front None bytes tells = tt
     front (Some all) None tells = absurd tells
     front (Some all) (Some rest) tells = λ given whole.
-        let later = replies_ahead kind (so.seen ++ more.0 ∷ []) (lines rest) (lines all) (so.replies ++ failed.given) given failed.after tells upto whole in
+        let later = replies_ahead kind (so.seen ++ more.0 ∷ []) (lines rest) (lines all) (so.replies ++ failed.given) given failed.after tells.0 upto whole in
         front_of so.replies failed.given later.0 given sink_old sink sink' so.adds failed.fails later.1
 
 -- the replies to a whole input whose lines were all seen: those so far, and those of what still waits
@@ -267,11 +295,11 @@ pub WritesFront-unfinished : (kind : Input) (source_old : Supply) (reader : Read
     → FailsToFinish kind state sink sink' → IfSome source_old.left (λ input. WritesFront kind input sink_old sink')
 WritesFront-unfinished kind source_old reader source sink_old sink sink' number state refused so end failed = front source_old.left (ahead reader source) so.tells end
   where
-    front : (input bytes : Option (List ℕ)) → Tells input bytes so.seen → IfSome bytes (λ xs. xs ≡ []) → IfSome input (λ all. WritesFront kind all sink_old sink')
+    front : (input bytes : Option (List ℕ)) → Tells input bytes so.seen reader.ended → IfSome bytes (λ xs. xs ≡ []) → IfSome input (λ all. WritesFront kind all sink_old sink')
     front None bytes tells none = tt
     front (Some all) None tells none = absurd tells
     front (Some all) (Some rest) tells none = λ given whole.
-        let mine : AnswersAll kind (lines all) (so.replies ++ failed.given) = answers_all kind all rest so.seen so.replies failed.given state failed.linker tells none so.answers failed.ending in
+        let mine : AnswersAll kind (lines all) (so.replies ++ failed.given) = answers_all kind all rest so.seen so.replies failed.given state failed.linker tells.0 none so.answers failed.ending in
         let same : given ≡ so.replies ++ failed.given = AnswersAll-only kind (lines all) given (so.replies ++ failed.given) whole mine in
         front_of so.replies failed.given [] given sink_old sink sink' so.adds failed.fails (same ∙ sym (append-nil (so.replies ++ failed.given)))
 
@@ -281,14 +309,14 @@ pub WritesAll-end : (kind : Input) (source_old : Supply) (reader : Reading) (sou
     → Finished kind state sink sink' bad → IfSome source_old.left (λ input. WritesAll kind input sink_old sink' (refused || bad))
 WritesAll-end kind source_old reader source sink_old sink sink' number state refused bad so end finished = whole source_old.left (ahead reader source) so.tells end
   where
-    whole : (input bytes : Option (List ℕ)) → Tells input bytes so.seen → IfSome bytes (λ xs. xs ≡ []) → IfSome input (λ all. WritesAll kind all sink_old sink' (refused || bad))
+    whole : (input bytes : Option (List ℕ)) → Tells input bytes so.seen reader.ended → IfSome bytes (λ xs. xs ≡ []) → IfSome input (λ all. WritesAll kind all sink_old sink' (refused || bad))
     whole None bytes tells none = tt
     whole (Some all) None tells none = absurd tells
     whole (Some all) (Some rest) tells none =
         let texts : text_of_all (so.replies ++ finished.given) ≡ text_of_all so.replies ++ text_of_all finished.given = flat_map-append text_of so.replies finished.given in
         let bad_is : bad ≡ list_any is_refusal finished.given = finished.says.refused_is in (
           so.replies ++ finished.given,
-          answers_all kind all rest so.seen so.replies finished.given state finished.linker tells none so.answers finished.ending,
+          answers_all kind all rest so.seen so.replies finished.given state finished.linker tells.0 none so.answers finished.ending,
           rw texts (WritesText-then sink_old sink sink' (text_of_all so.replies) (text_of_all finished.given) so.adds finished.says.adds),
           ap (λ b. b || bad) so.refused_is ∙ ap (λ b. list_any is_refusal so.replies || b) bad_is ∙ sym (list_any-append is_refusal so.replies finished.given),
         )
@@ -348,3 +376,34 @@ Takes-too_long source_old source source' reader reader' taken counts full =
       within = omega (arith, more.sum, counts.within);
       too_long = (λ _. sym more.sum ∙ full, λ _. refl);
     }
+
+-- what was answered are the whole lines of the bytes taken, where reading stops before the end
+pub WritesTaken-so_far : (kind : Input) (status : Status) (source_old : Supply) (reader reader' : Reading) (source source' : Supply) (sink_old sink : Receipt) (number : ℕ) (state : State) (refused : Bool)
+    (extra : List ℕ) → SoFar kind source_old reader source sink_old sink number state refused → reader.ended ≡ false → SawNoLine reader reader' source source' extra → IsBeyond status extra
+    → IfSome source_old.left (λ bytes. WritesTaken kind status source_old source' sink_old sink)
+WritesTaken-so_far kind status source_old reader reader' source source' sink_old sink number state refused extra so unended saw beyond =
+    taken source_old.left (ahead reader source) source'.left refl refl so.tells saw.bytes
+  where
+    taken : (input bytes left : Option (List ℕ)) → source_old.left ≡ input → source'.left ≡ left → Tells input bytes so.seen reader.ended → Consumes bytes left (saw.seen ++ extra)
+        → IfSome input (λ all. WritesTaken kind status source_old source' sink_old sink)
+    taken None bytes left was now tells takes = tt
+    taken (Some all) None left was now tells takes = absurd tells
+    taken (Some all) (Some rest) None was now tells takes = absurd takes
+    taken (Some all) (Some rest) (Some ys) was now tells takes =
+        let front : BeginWithLines all so.seen rest = tells.1 unended in
+        let lines_of : List ℕ = flat_map with_feed front.raw in
+        let parts : all ≡ ((lines_of ++ saw.seen) ++ extra) ++ ys = front.parts ∙ ap (λ xs. lines_of ++ xs) takes ∙ (simp append_assoc) in
+        record {
+          taken = lines_of ++ saw.seen;
+          extra = extra;
+          bytes = rw (was, now) parts;
+          beyond = beyond;
+          ended = record {
+            contents = so.seen;
+            ended = (saw.seen, saw.none, record { raw = front.raw; each = front.each; parts = refl; contents_are = front.contents_are });
+            replies = so.replies;
+            state = state;
+            answers = so.answers;
+            adds = so.adds;
+          };
+        }

@@ -2,12 +2,12 @@
 use Rattle.std.specs.Prelude.{◌≡◌, ℕ, Bool, List}
 use Rattle.std.specs.List.{list_any}
 use Rattle.outer_io.specs.Receipt.{Receipt}
-use Rattle.mops_run.specs.Lines.{said_by}
 use Rattle.track_report.specs.Refusals.{is_refusal}
 use Rattle.track_report.specs.declared.replies.Reply.{Reply}
 use Rattle.window_incr.specs.LinkerState.{LinkerState}
 use Rattle.mops_run.specs.State.{State}
 use Rattle.mops_run.specs.declared.inputs.Input.{Input}
+use Rattle.mops_run.specs.declared.lines.Said.{Said}
 use Rattle.mops_run.specs.Inputs.{RepliesIn, EndsIn}
 use Rattle.mops_run.specs.Output.{text_of_all, WritesText, FailsIn}
 
@@ -16,17 +16,17 @@ pub record Says (given : List Reply) (old new : Receipt) (refused : Bool) : Type
   pub adds : WritesText old new (text_of_all given)
   pub refused_is : refused ≡ list_any is_refusal given
 
--- the replies to the line of a number were said
-pub record Answered (input : Input) (number : ℕ) (state : State) (line : List ℕ) (old new : Receipt) (refused : Bool) (after : State) : Type 0 where
+-- the replies to what the line of a number says were said
+pub record Answered (input : Input) (number : ℕ) (state : State) (said : Said) (old new : Receipt) (refused : Bool) (after : State) : Type 0 where
   pub given : List Reply
-  pub replies : RepliesIn input number state (said_by line) given after
+  pub replies : RepliesIn input number state said given after
   pub says : Says given old new refused
 
--- a front of the texts of the replies to the line of a number was added, and then a call failed
-pub record FailsToAnswer (input : Input) (number : ℕ) (state : State) (line : List ℕ) (old new : Receipt) : Type 0 where
+-- a front of the texts of the replies to what the line of a number says was added, and then a call failed
+pub record FailsToAnswer (input : Input) (number : ℕ) (state : State) (said : Said) (old new : Receipt) : Type 0 where
   pub given : List Reply
   pub after : State
-  pub replies : RepliesIn input number state (said_by line) given after
+  pub replies : RepliesIn input number state said given after
   pub fails : FailsIn old new (text_of_all given)
 
 -- the replies at the end of the input were said

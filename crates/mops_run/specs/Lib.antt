@@ -7,6 +7,7 @@ pub mod Linking
 pub mod Inputs
 pub mod Answering
 pub mod Watch
+pub mod Part
 pub mod Promise
 pub mod Forms
 pub mod Summing

@@ -1,5 +1,6 @@
 -- What a line of the input is to the program.
-use Rattle.std.specs.Prelude.{ℕ, ◌<◌, ◌^◌, List, length, Result, Ok, Err}
+use Rattle.std.specs.Prelude.{◌≡◌, ℕ, ◌<◌, ◌^◌, ◌++◌, List, [], ◌∷◌, length, Option, Some, None, Result, Ok, Err}
+use Rattle.miti_text.specs.Observation.{Observation}
 use Rattle.script_text.specs.Script.{script_line_of}
 use Rattle.script_text.specs.declared.lines.Line.{Line}
 use Rattle.script_text.specs.declared.lines.Line.TheVariants as lines
@@ -26,6 +27,11 @@ said_of (Err error) = Malformed error
 -- what a line of these bytes is
 abbrev pub said_by : List ℕ → Said
 said_by line = said_of (script_line_of line)
+
+-- what a line says is left to be answered; or it was a detection, which has joined those that wait
+abbrev pub IsLeft : Said → List Observation → List Observation → Option Said → Type 0
+IsLeft said old new None = (d : Observation) × (said ≡ Waits d) × (new ≡ old ++ d ∷ [])
+IsLeft said old new (Some left) = (left ≡ said) × (new ≡ old)
 
 -- the nights of a window's command are near, as its numbers have at most eighteen digits, and asked ids are few, as a line is short
 abbrev pub IsNearCommand : Command → Type 0

@@ -9,6 +9,7 @@ use Rattle.track_report.specs.Refusals.{is_refusal}
 use Rattle.mops_run.specs.Output.{text_of_all}
 use Rattle.mops_run.specs.Output.{WritesText, WritesTextFront}
 use Rattle.mops_run.specs.declared.inputs.Input.{Input}
+use Rattle.mops_run.specs.Part.{StopsReading, WritesTaken}
 use Rattle.mops_run.specs.Watch.{AnswersAll}
 use Rattle.track_report.specs.declared.replies.Reply.{Reply}
 use Rattle.mops_run.specs.declared.top.Status.{Status}
@@ -97,6 +98,7 @@ pub record Reads (input : Input) (status : Status) (source_old source_new : Supp
   -- where the bytes of the input are told: all replies are written, or a front of them
   pub whole : IfSome (refused_by status) (λ refused. IfSome source_old.left (λ bytes. WritesAll input bytes sink_old sink_new refused))
   pub front : IfSome source_old.left (λ bytes. WritesFront input bytes sink_old sink_new)
+  pub part : StopsReading status → IfSome source_old.left (λ bytes. WritesTaken input status source_old source_new sink_old sink_new)
   -- a run that is done has read all there is
   pub spent : IfSome (refused_by status) (λ refused. IsSpent source_new)
   -- all that was written is flushed, unless a write failed or memory was wanting

@@ -12,6 +12,7 @@ use Rattle.mops_run.specs.declared.top.Status.{Status}
 use Rattle.mops_run.specs.declared.top.Status.TheVariants.{Usage}
 use Rattle.mops_run.specs.Forms.{sky_of}
 use Rattle.mops_run.specs.Output.{WritesText, WritesTextFront}
+use Rattle.mops_run.specs.Part.{StopsReading, WritesTaken}
 use Rattle.mops_run.specs.Promise.{WritesAll, WritesFront, IsSpent, IsShort, NoneFailed, SourceFaults, SinkFaults, Takes, EndsByReading, EndsUnread, refused_by}
 use Rattle.mops_run.specs.Summing.{IsSummary, summary_text}
 
@@ -37,6 +38,13 @@ WritesPart Link told old new = IfSome told (λ bytes. WritesFront Plain bytes ol
 WritesPart (Generate plan) told old new = WritesTextFront old new (made_text (sky_of plan))
 WritesPart (Summary plan) told old new = WritesSummaryFront plan old new
 
+-- the replies to the lines of the bytes taken that a line feed ends were added, where the source tells its bytes; only a form that reads stops reading
+abbrev pub WritesTakenPart : Form → Status → Supply → Supply → Receipt → Receipt → Type 0
+WritesTakenPart Watch status source_old source_new old new = IfSome source_old.left (λ bytes. WritesTaken Script status source_old source_new old new)
+WritesTakenPart Link status source_old source_new old new = IfSome source_old.left (λ bytes. WritesTaken Plain status source_old source_new old new)
+WritesTakenPart (Generate plan) status source_old source_new old new = ⊥
+WritesTakenPart (Summary plan) status source_old source_new old new = ⊥
+
 -- how a run that writes a summary and reads nothing ended, by its status
 pub record Summarizes (plan : SkyPlan) (status : Status) (old new : Receipt) : Type 0 where
   pub whole : IfSome (refused_by status) (λ _. WritesSummary plan old new)
@@ -60,6 +68,7 @@ pub record IsReadable (form : Form) (old new : Supply) : Type 0 where
 pub record Runs (form : Form) (status : Status) (source_old source_new : Supply) (sink_old sink_new : Receipt) : Type 0 where
   pub whole : IfSome (refused_by status) (WritesWhole form source_old.left sink_old sink_new)
   pub front : WritesPart form source_old.left sink_old sink_new
+  pub part : StopsReading status → WritesTakenPart form status source_old source_new sink_old sink_new
   pub spent : IfSome (refused_by status) (λ _. ReadsInput form → IsSpent source_new)
   pub flushed : EndsByReading status → (sink_new ≡ sink_old) ⊎ IsFlushed sink_new
   pub source_faults : SourceFaults status source_old.faults source_new.faults

@@ -1,6 +1,7 @@
 //! Whole runs of the program on detections alone, and on made skies.
 use crate::tests::{A1, A2, B1, B2, C1, C2, SIX_ACCEPTED, WINDOW, joined, run_on};
 use crate::top::Status;
+use miti_text::read_number;
 use outer_io::{MemSink, MemSource, SureSource};
 use std::alloc::Global;
 use std::process::Abort;
@@ -151,5 +152,52 @@ fn made_skies_at_faults(rt: HostRuntime) -> Result<(), Fail> {
         assert_eq!(rt; status, Status::Done);
         assert_eq!(rt; sink.bytes(), text.as_bytes());
     }
+    Ok(())
+}
+
+/// The summary of the made sky of a number, nights and objects.
+fn summary_of(alloc: Global, plan: [&str; 3]) -> Result<Vec<u8>, Fail> {
+    let [number, nights, objects] = plan;
+    let mut source = SureSource::new(Vec::new(alloc));
+    let mut sink = MemSink::new(alloc, 100, 100, Vec::new(alloc))?;
+    let words = ["summary", number, nights, objects];
+    let status = run_on(alloc, &words, &mut source, &mut sink)?;
+    if status != Status::Done {
+        return Ok(Vec::new(alloc));
+    }
+    Ok(Vec::from_slice(alloc, sink.bytes())?)
+}
+
+/// The two numbers behind a front of a text that ends with a line feed.
+fn two_numbers(text: &[u8], front: &[u8]) -> Option<(i64, i64)> {
+    let line = text.strip_prefix(front)?.strip_suffix(b"\n".as_slice())?;
+    let space = line.iter().position(|byte| *byte == b' ')?;
+    let (first, second) = line.split_at(space);
+    Some((
+        read_number(first)?,
+        read_number(second.strip_prefix(b" ".as_slice())?)?,
+    ))
+}
+
+#[test]
+fn summaries_of_made_skies(rt: HostRuntime) -> Result<(), Fail> {
+    let alloc = rt.alloc();
+    let text = summary_of(alloc, ["7", "14", "300"])?;
+    assert_eq!(rt;
+        text.as_slice(),
+        b"summary 7 14 300\nstats 28 8400 4203 6750\n".as_slice()
+    );
+    assert_eq!(rt;
+        text.as_slice(),
+        summary_of(alloc, ["7", "14", "300"])?.as_slice()
+    );
+    // Objects may come to move too fast for a tracklet after the twentieth night.
+    let text = summary_of(alloc, ["3", "30", "20"])?;
+    let counts = two_numbers(text.as_slice(), b"summary 3 30 20\nstats 60 1200 ");
+    assert!(rt;
+        counts.is_some_and(|(tracklets, tracks)| 400 <= tracklets
+            && tracklets <= 600
+            && 20 <= tracks)
+    );
     Ok(())
 }

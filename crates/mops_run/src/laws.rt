@@ -1,4 +1,5 @@
 //! Laws over the definitions alone, each the contract of a function that does nothing else.
+ghost use Rattle.mops_run.specs.Part.{EndedLinesAreUnique};
 ghost use Rattle.mops_run.specs.Watch.{RepliesAreUnique, RepliesExist};
 
 use window_incr::{asked_exists, report_exists, stats_exist};
@@ -16,3 +17,8 @@ pub fn replies_exist()
     stats_exist();
     asked_exists();
 }
+
+/// Bytes have only one list of lines that a line feed ends.
+pub fn ended_lines_are_unique()
+    ensures { EndedLinesAreUnique }
+{}

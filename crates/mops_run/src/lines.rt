@@ -1,11 +1,14 @@
 //! What a line of the input is to the program.
-ghost use Rattle.std.specs.Prelude.{◌≡◌, IfOk};
-ghost use Rattle.mops_run.specs.Lines.{said_by as said_by_line, said_of as said_of_line};
+ghost use Rattle.std.specs.Prelude.{◌≡◌, IfOk, Result};
+ghost use Rattle.script_text.specs.Commands.{IsAnswer};
+ghost use Rattle.script_text.specs.declared.lines.Line.{Line};
+ghost use Rattle.script_text.specs.declared.errors.ScriptError.{ScriptError};
+ghost use Rattle.mops_run.specs.Lines.{IsLeft, said_of as said_of_line};
 
 use miti_text::{Detection, LineError};
-use script_text::{Line, ScriptError, read_script_line};
+use script_text::{Line, ScriptError};
 use sky_units::{NoMemory, Word, Words};
-use std::alloc::{AllocError, Global};
+use std::alloc::AllocError;
 
 /// What a line is to the program. A command, well formed or not, ends the delivery that is under way.
 #[derive(Debug, Drop)]
@@ -39,23 +42,21 @@ pub enum Command {
     Stats,
 }
 
-/// What a line of these bytes is.
-pub fn said_by(alloc: Global, text: &[u8]) -> Result<Said, NoMemory>
-    ensures { IfOk result (λ said. said ≡ said_by_line text.now) }
+/// What is left to answer of a line that was read so. Most lines are detections: such a one joins
+/// those that wait at once, and nothing is left.
+pub fn left_of(
+    line: Result<Line, ScriptError>,
+    waiting: &mut Vec<Detection>,
+) -> Result<Option<Said>, NoMemory>
+    ensures { (answer : Result Line ScriptError) → IsAnswer answer line → IfOk result
+        (IsLeft (said_of_line answer) waiting.old.items waiting.new.items) }
 {
-    match read_script_line(alloc, text) {
-        Err(ScriptError::NoMemory) => Err(AllocError),
-        line => Ok(said_of(line)),
-    }
-}
-
-/// What a line is that was read so.
-fn said_of(line: Result<Line, ScriptError>) -> Said
-    ensures { result ≡ said_of_line line }
-{
-    match line {
+    let said = match line {
+        Ok(Line::Detection(detection)) => {
+            waiting.push(detection)?;
+            return Ok(None);
+        }
         Ok(Line::Blank) => Said::Nothing,
-        Ok(Line::Detection(detection)) => Said::Waits(detection),
         Ok(Line::Bad(error)) => Said::Refused(error),
         Ok(Line::Set(name, value)) => Said::Asks(Command::Set(name, value)),
         Ok(Line::Window(lo, hi)) => Said::Asks(Command::Window(lo, hi)),
@@ -63,6 +64,8 @@ fn said_of(line: Result<Line, ScriptError>) -> Said
         Ok(Line::Report) => Said::Asks(Command::Report),
         Ok(Line::Ask(ids)) => Said::Asks(Command::Ask(ids)),
         Ok(Line::Stats) => Said::Asks(Command::Stats),
+        Err(ScriptError::NoMemory) => return Err(AllocError),
         Err(error) => Said::Malformed(error),
-    }
+    };
+    Ok(Some(said))
 }

@@ -1,23 +1,24 @@
 //! Answering the lines of an input, one after another.
-ghost use Rattle.std.specs.Prelude.{◌≡◌, ◌^◌, ◌<◌, IfOk, length};
+ghost use Rattle.std.specs.Prelude.{◌≡◌, ◌^◌, ◌<◌, ◌++◌, ◌∷◌, [], false, IfOk, length};
 ghost use Rattle.std.specs.List.{list_any};
 ghost use Rattle.track_report.specs.Refusals.{is_refusal};
 ghost use Rattle.mops_run.specs.Answering.{Says, Answered, FailsToAnswer, Finished, FailsToFinish};
 ghost use Rattle.mops_run.specs.Inputs.{EndsIn, RepliesIn};
-ghost use Rattle.mops_run.specs.Lines.{IsNearLine};
+ghost use Rattle.mops_run.specs.Lines.{IsNearLine, said_by};
 ghost use Rattle.mops_run.specs.Output.{text_of_all, FailsIn};
 ghost use Rattle.mops_run.specs.Promise.{Reads, done_status};
 ghost use Rattle.mops_run.specs.State.{state_of};
 
 use crate::delivering::deliver;
 use crate::inputs::Input;
-use crate::lines::{Said, said_by};
+use crate::lines::{Said, left_of};
 use crate::linking::{link_and_report, plain_reply};
 use crate::output::{Stop, put};
 use crate::top::Status;
 use crate::watching::script_reply;
 use miti_text::Detection;
 use outer_io::{Got, LineReader, ReadStop, Sink, Source};
+use script_text::read_script_line;
 use sky_units::{NoMemory, Settings, Tally};
 use std::alloc::Global;
 use track_report::{Reply, append_reply};
@@ -87,7 +88,8 @@ fn done(refused: bool) -> Status
     }
 }
 
-/// Answers the line of a number on the sink, and says whether a reply is a refusal.
+/// Answers the line of a number on the sink, and says whether a reply is a refusal. A detection joins
+/// those that wait, and has no reply.
 fn answer<O: Sink>(
     alloc: Global,
     input: Input,
@@ -100,16 +102,46 @@ fn answer<O: Sink>(
 ) -> Result<bool, Stop>
     requires few { length waiting.old.items < 2 ^ 32 }
     ensures ok { IfOk result (λ refused.
-        Answered input number (state_of linker.old.state waiting.old.items) text.now
+        Answered input number (state_of linker.old.state waiting.old.items) (said_by text.now)
         (O.receipt sink.old) (O.receipt sink.new) refused
         (state_of linker.new.state waiting.new.items)) }
     ensures memory { result ≡ Err Stop.NoMemory → sink.new ≡ sink.old }
     ensures fault { result ≡ Err Stop.WriteFault →
-        FailsToAnswer input number (state_of linker.old.state waiting.old.items) text.now
+        FailsToAnswer input number (state_of linker.old.state waiting.old.items)
+        (said_by text.now) (O.receipt sink.old) (O.receipt sink.new) }
+    ensures tally { tally.new ≡ tally.old }
+{
+    let read = read_script_line(alloc, text);
+    let left = left_of(read, waiting)?;
+    match left {
+        None => Ok(false),
+        Some(said) => answer_said(alloc, input, linker, waiting, sink, number, said, tally),
+    }
+}
+
+/// Answers on the sink what the line of a number says, and says whether a reply is a refusal.
+fn answer_said<O: Sink>(
+    alloc: Global,
+    input: Input,
+    linker: &mut Linker,
+    waiting: &mut Vec<Detection>,
+    sink: &mut O,
+    number: u64,
+    said: Said,
+    tally: &mut Tally,
+) -> Result<bool, Stop>
+    requires few { length waiting.old.items < 2 ^ 32 }
+    requires near { IsNearLine said }
+    ensures ok { IfOk result (λ refused.
+        Answered input number (state_of linker.old.state waiting.old.items) said
+        (O.receipt sink.old) (O.receipt sink.new) refused
+        (state_of linker.new.state waiting.new.items)) }
+    ensures memory { result ≡ Err Stop.NoMemory → sink.new ≡ sink.old }
+    ensures fault { result ≡ Err Stop.WriteFault →
+        FailsToAnswer input number (state_of linker.old.state waiting.old.items) said
         (O.receipt sink.old) (O.receipt sink.new) }
     ensures tally { tally.new ≡ tally.old }
 {
-    let said = said_by(alloc, text)?;
     let replies = reply(alloc, input, linker, waiting, number, said, tally)?;
     say(alloc, sink, replies.as_slice())
 }

@@ -1,5 +1,5 @@
 //! Whole runs of the program: rows of lines in and replies out, and the runners that compare them.
-use crate::laws::{replies_are_unique, replies_exist};
+use crate::laws::{ended_lines_are_unique, replies_are_unique, replies_exist};
 use crate::top::{Status, run};
 use outer_io::{EndlessSource, MemSink, MemSource, Sink, Source, SureSink, SureSource};
 use sky_units::{Tally, Word};
@@ -620,12 +620,14 @@ fn limit_of_a_night(rt: HostRuntime) -> Result<(), Fail> {
     )
 }
 
-/// Watches one delivery of so many detections of one exposure, and compares the last reply.
+/// Watches one delivery of so many detections of one exposure, and a last line, and compares the
+/// replies to them.
 fn expect_of_exposure(
     rt: &(impl Abort + AllocGlobal),
     count: u32,
+    last: &str,
     status: Status,
-    reply: &str,
+    replies: &str,
 ) -> Result<(), Fail> {
     let alloc = rt.alloc();
     let mut script = joined(alloc, &[WINDOW])?;
@@ -633,13 +635,14 @@ fn expect_of_exposure(
         let line = format!(in alloc; "d{number} 59000.25 10 5 20 568 NS\n")?;
         script.extend_from_slice(line.as_bytes())?;
     }
+    script.extend_from_slice(last.as_bytes())?;
     let mut source = SureSource::new(script);
     let mut sink = MemSink::new(alloc, 4096, 4096, Vec::new(alloc))?;
     let ended = run_on(alloc, &["watch"], &mut source, &mut sink)?;
     assert_eq!(rt; ended, status);
     assert_eq!(rt;
         sink.bytes(),
-        joined(alloc, &[WINDOW_SET, reply])?.as_slice()
+        joined(alloc, &[WINDOW_SET, replies])?.as_slice()
     );
     Ok(())
 }
@@ -647,41 +650,72 @@ fn expect_of_exposure(
 #[test]
 fn limits_of_the_log(rt: HostRuntime) -> Result<(), Fail> {
     let full = "exposure 59000250000 568 refused full\n";
-    expect_of_exposure(&rt, 1_048_577, Status::DoneWithRefusals, full)?;
-    let accepted = "exposure 59000250000 568 accepted 1048576\n";
-    expect_of_exposure(&rt, 1_048_576, Status::Done, accepted)
+    expect_of_exposure(&rt, 1_048_577, "", Status::DoneWithRefusals, full)?;
+    let accepted = "exposure 59000250000 568 accepted 1048576\ntracklets 59000 0\n";
+    let last = "!tracklets 59000\n";
+    expect_of_exposure(&rt, 1_048_576, last, Status::Done, accepted)
 }
 
+/// Each read fails in turn, at pieces of several sizes. What was written then are the replies to the
+/// whole lines before, and all of it is flushed.
 #[test]
-fn faults_in_the_middle(rt: HostRuntime) -> Result<(), Fail> {
+fn reads_that_fail(rt: HostRuntime) -> Result<(), Fail> {
     let alloc = rt.alloc();
     let script = [WINDOW, A1, A2, B1, B2, C1, C2, "!report\n"];
     let input = joined(alloc, &script)?;
     let whole = joined(alloc, &[WINDOW_SET, SIX_ACCEPTED, ONE_TRACK])?;
-    for failing in 0..30_u64 {
-        let mut source = MemSource::new(joined(alloc, &script)?, 16, vec![in alloc; failing]?);
-        let mut sink = MemSink::new(alloc, 4096, 8, Vec::new(alloc))?;
-        let status = run_on(alloc, &["watch"], &mut source, &mut sink)?;
-        // The input comes in so many pieces, and its end in one more call.
-        let pieces = input.len().div_ceil(16) as u64;
-        assert_eq!(rt; status == Status::ReadFault, failing <= pieces, "{failing}");
-        // Two pieces hold the first line whole; the detections wait for the last line.
-        let want = match failing {
-            0..2 => b"".as_slice(),
-            _ if failing < pieces => WINDOW_SET.as_bytes(),
-            _ => whole.as_slice(),
-        };
-        assert_eq!(rt; sink.bytes(), want, "{failing}");
-        assert_eq!(rt; sink.flushed(), want.len(), "{failing}");
+    for (piece, reads) in [(1_usize, 360_u64), (16, 30), (4096, 4)] {
+        for failing in 0..reads {
+            let mut source = MemSource::new(
+                joined(alloc, &script)?,
+                piece,
+                vec![in alloc; failing]?,
+            );
+            let mut sink = MemSink::new(alloc, 4096, 8, Vec::new(alloc))?;
+            let status = run_on(alloc, &["watch"], &mut source, &mut sink)?;
+            // The input comes in so many pieces, and its end in one more call.
+            let pieces = input.len().div_ceil(piece) as u64;
+            let want = if failing <= pieces {
+                Status::ReadFault
+            } else {
+                Status::Done
+            };
+            assert_eq!(rt; status, want, "{failing}");
+            // The detections wait for the last line.
+            let taken = piece.saturating_mul(failing as usize);
+            let text = if taken < WINDOW.len() {
+                b"".as_slice()
+            } else if taken < input.len() {
+                WINDOW_SET.as_bytes()
+            } else {
+                whole.as_slice()
+            };
+            assert_eq!(rt; sink.bytes(), text, "{failing}");
+            assert_eq!(rt; sink.flushed(), text.len(), "{failing}");
+        }
     }
     Ok(())
 }
 
+/// Each write and flush fails in turn, at pieces of one byte and of eight, and the room ends at each
+/// byte. What was written then is a front of all replies.
 #[test]
 fn writes_that_fail_and_room_that_ends(rt: HostRuntime) -> Result<(), Fail> {
     let alloc = rt.alloc();
     let script = [WINDOW, A1, A2, B1, B2, C1, C2, "!report\n"];
     let whole = joined(alloc, &[WINDOW_SET, SIX_ACCEPTED, ONE_TRACK])?;
+    for (piece, calls) in [(1_usize, 480_u64), (8, 80)] {
+        for failing in 0..calls {
+            let mut source = SureSource::new(joined(alloc, &script)?);
+            let mut sink = MemSink::new(alloc, 4096, piece, vec![in alloc; failing]?)?;
+            let status = run_on(alloc, &["watch"], &mut source, &mut sink)?;
+            assert!(rt; whole.as_slice().starts_with(sink.bytes()), "{failing}");
+            if status != Status::WriteFault {
+                assert_eq!(rt; status, Status::Done, "{failing}");
+                assert_eq!(rt; sink.flushed(), whole.len(), "{failing}");
+            }
+        }
+    }
     // The first reply is written in three calls, and flushed in a fourth.
     for (failing, written) in [(0, 0), (1, 8), (2, 16), (3, 19), (4, 19), (5, 27)] {
         let mut source = SureSource::new(joined(alloc, &script)?);
@@ -689,7 +723,6 @@ fn writes_that_fail_and_room_that_ends(rt: HostRuntime) -> Result<(), Fail> {
         let status = run_on(alloc, &["watch"], &mut source, &mut sink)?;
         assert_eq!(rt; status, Status::WriteFault, "{failing}");
         assert_eq!(rt; sink.bytes().len(), written, "{failing}");
-        assert!(rt; whole.as_slice().starts_with(sink.bytes()), "{failing}");
     }
     for room in 0..whole.len() {
         let mut source = SureSource::new(joined(alloc, &script)?);
@@ -717,6 +750,7 @@ fn endless_input(rt: HostRuntime) -> Result<(), Fail> {
 fn usage(rt: HostRuntime) -> Result<(), Fail> {
     replies_are_unique();
     replies_exist();
+    ended_lines_are_unique();
     let alloc = rt.alloc();
     let lists: [&[&str]; 20] = [
         &[],

@@ -2,8 +2,9 @@
 ghost use Rattle.std.specs.Prelude.{◌≡◌, ◌≢◌, ◌↔◌, ◌⊎◌, None, IfSome};
 ghost use Rattle.outer_io.specs.Receipt.{IsFlushed};
 ghost use Rattle.mops_run.specs.Forms.{HasPlan, form_of as form_of_words};
+ghost use Rattle.mops_run.specs.Part.{StopsReading};
 ghost use Rattle.mops_run.specs.Promise.{EndsByReading, EndsUnread, IsDone, IsSpent, NoneFailed, SinkFaults, SourceFaults, Takes, refused_by};
-ghost use Rattle.mops_run.specs.Runs.{IsReadable, ReadsInput, Runs, WritesPart, WritesWhole};
+ghost use Rattle.mops_run.specs.Runs.{IsReadable, ReadsInput, Runs, WritesPart, WritesTakenPart, WritesWhole};
 
 use crate::forms::{Form, form_of};
 use crate::generating::generate;
@@ -23,13 +24,13 @@ pub enum Status {
     DoneWithRefusals = 1,
     /// The words are none of the program's forms. Nothing was read or written.
     Usage = 2,
-    /// A read failed. A front of the replies was written.
+    /// A read failed. The replies to the whole lines before it were written.
     ReadFault = 3,
     /// A write or a flush failed. A front of the replies was written.
     WriteFault = 4,
     /// Memory was wanting. A front of the replies was written.
     NoMemory = 5,
-    /// The input has 2^32 bytes or more. A front of the replies was written.
+    /// The input has 2^32 bytes or more. The replies to the whole lines before these were written.
     InputTooLong = 6,
 }
 
@@ -57,6 +58,12 @@ pub fn run<I: Source, O: Sink>(
         (WritesWhole form (I.supply source.old).left (O.receipt sink.old) (O.receipt sink.new))) }
     ensures front { IfSome (form_of_words words.now) (λ form.
         WritesPart form (I.supply source.old).left (O.receipt sink.old) (O.receipt sink.new)) }
+
+    // Where a read failed, or the input is too long, exactly the replies to the lines of the bytes
+    // taken were written, as far as a line feed ends these lines.
+    ensures part { StopsReading result → IfSome (form_of_words words.now) (λ form.
+        WritesTakenPart form result (I.supply source.old) (I.supply source.new)
+        (O.receipt sink.old) (O.receipt sink.new)) }
 
     // A run that is done has read all there is; all that was written is flushed, unless a write
     // failed or memory was wanting.

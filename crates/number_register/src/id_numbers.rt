@@ -40,7 +40,7 @@ impl IdNumbers {
         ensures some { (n : ℕ) → result ≡ Some n →
             (d : Observation) × (slot slots.now n ≡ Some d) × (d.id ≡ id.now) }
     {
-        if let Some(number) = self.by_hash.get(&hash_of(id)).copied() {
+        if let Some(number) = number_by_hash(&self.by_hash, id) {
             if is_id_of(slots, number, id) {
                 return Some(number);
             }
@@ -87,6 +87,16 @@ impl IdNumbers {
             self.by_id.swap_remove(id);
         }
     }
+}
+
+/// The number that stands under the hash of an id. Where no number does, nothing is hashed.
+fn number_by_hash(by_hash: &IndexMap<u64, u32>, id: &[u8]) -> Option<u32>
+    ensures { result ≡ under_hash by_hash.now.entries (id_hash id.now) }
+{
+    if by_hash.is_empty() {
+        return None;
+    }
+    by_hash.get(&hash_of(id)).copied()
 }
 
 /// The number that stands under an id. Mostly no id is there, and then none is compared.

@@ -8,6 +8,8 @@ pub mod MaximalTracks
 pub mod Members
 pub mod NightParts
 pub mod NumberSets
+pub mod PaidBoth
+pub mod PaidPairs
 pub mod Pairing
 pub mod Partnering
 pub mod Putting

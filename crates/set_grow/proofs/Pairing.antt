@@ -22,10 +22,10 @@ abbrev number_of : Partner → ℕ
 number_of partner = partner.number
 
 -- ---- two numbers in order
-ordered_less : (a b : ℕ) → a < b → ordered a b ≡ (a, b)
+pub ordered_less : (a b : ℕ) → a < b → ordered a b ≡ (a, b)
 ordered_less a b l = let t : nat_lt a b ≡ true = grind (arith, tests) in rw t refl
 
-ordered_more : (a b : ℕ) → b ≤ a → ordered a b ≡ (b, a)
+pub ordered_more : (a b : ℕ) → b ≤ a → ordered a b ≡ (b, a)
 ordered_more a b l = let t : nat_lt a b ≡ false = grind (arith, tests) in rw t refl
 
 ordered_back : (a b : ℕ) → ¬ (a ≡ b) → ordered a b ≡ ordered b a

@@ -50,7 +50,7 @@ follow sky a b s t p v w later f =
     let fits : Fits sky.settings ((one_at sky.nights s).tracklet ++ (one_at sky.nights t).tracklet) = subst (λ (last : List SpotData). Fits sky.settings ((one_at sky.nights s).tracklet ++ last)) (append-nil (one_at sky.nights t).tracklet) fit.1 in
     inl (later, own_may sky.settings (one_at sky.nights s).tracklet (one_at sky.nights t).tracklet (tracklet_at sky a s p v) (tracklet_at sky b t p w) arc fits)
 
-turned : (settings : SettingsData) (m n : ℕ) (d e : EndsData) → MayGo settings m d n e → MayGo settings n e m d
+pub turned : (settings : SettingsData) (m n : ℕ) (d e : EndsData) → MayGo settings m d n e → MayGo settings n e m d
 turned settings m n d e (inl h) = inr h
 turned settings m n d e (inr h) = inl h
 

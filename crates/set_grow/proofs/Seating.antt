@@ -262,7 +262,7 @@ spots_more nights seats i d l =
     spots_push (first ∷ set) t = ap (λ (spots : List SpotData). first ++ spots) (spots_push set t) ∙ sym (append_assoc first (spots_of set) t)
 
 -- ---- seats found one after the other
-earlier_below : (xs : List ℕ) (i y d : ℕ) → EachTwo (λ a b. a < b) xs → i < length xs → Contains (take i xs) y → y < get_or xs i d
+pub earlier_below : (xs : List ℕ) (i y d : ℕ) → EachTwo (λ a b. a < b) xs → i < length xs → Contains (take i xs) y → y < get_or xs i d
 earlier_below [] i y d rise l c = absurd (omega (arith, l))
 earlier_below (z ∷ zs) zero y d rise l c = absurd (in_none y c)
 earlier_below (z ∷ zs) (suc i) y d rise l c = elim (front_or_rest z (take i zs) y c) [

@@ -74,3 +74,17 @@ pub record IsRisingPair (item : ℕ) (pair : ℕ × ℕ) : Type 0 where
   pub rising : pair.0 < pair.1
   pub first : ¬ (pair.0 ≡ item)
   pub second : ¬ (pair.1 ≡ item)
+
+-- two partners may be of one object with each other too, and so their pair of numbers is tested
+pub record IsTestedOf (sky : SkyData) (one other : Partner) (pair : ℕ × ℕ) : Type 0 where
+  pub may : MayGo sky.settings one.seat.night one.ends other.seat.night other.ends
+  pub is : pair ≡ ordered one.number other.number
+
+-- the same of one partner and another one of some
+abbrev pub IsTestedWith : SkyData → Partner → List Partner → ℕ × ℕ → Type 0
+IsTestedWith sky one others pair = (other : Partner) × Contains others other × IsTestedOf sky one other pair
+
+-- and of two of some, the earlier one first
+abbrev pub IsTestedAmong : SkyData → List Partner → ℕ × ℕ → Type 0
+IsTestedAmong sky [] pair = ⊥
+IsTestedAmong sky (one ∷ others) pair = IsTestedWith sky one others pair ⊎ IsTestedAmong sky others pair

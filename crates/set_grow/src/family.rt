@@ -1,16 +1,19 @@
 //! The fitting sets of some nights as a family, for the search of closed sets.
-ghost use Rattle.std.specs.Prelude.{◌≡◌, ◌<◌, length, map, get_or, pos, [], IfOk};
-ghost use Rattle.set_grow.specs.Ends.{ends_in};
+ghost use Rattle.std.specs.Prelude.{◌≡◌, ◌<◌, length, get_or, pos, [], IfOk};
+ghost use Rattle.std.specs.List.{Contains};
+ghost use Rattle.bound_prune.specs.EndsData.{EndsData};
+ghost use Rattle.bound_prune.specs.Spans.{IsInRange};
+ghost use Rattle.set_grow.specs.Ends.{MayGo, ends_in};
 ghost use Rattle.set_grow.specs.Nights.{AreInPlace, NumberedNightData};
 ghost use Rattle.set_grow.specs.Numbered.{without_numbers};
 ghost use Rattle.set_grow.specs.Seats.{IsSeat, one_at};
 ghost use Rattle.set_grow.specs.SkyData.{FitsWithParts, with_parts};
 
-use crate::ends::ends_by_night;
+use crate::ends::{NightEnds, ends_by_night};
 use crate::seats::{Seat, joined, seats_of};
 use crate::testing::is_fitting_arc;
 use crate::{NumberedNight, Place};
-use bound_prune::TrackletEnds;
+use bound_prune::{DecRange, TrackletEnds};
 use closed_sets::Family;
 use sky_units::{NoMemory, Settings, Spot, Tally};
 use std::alloc::Global;
@@ -27,11 +30,11 @@ pub struct Sky<'a> {
     pub table: &'a [Place],
     /// The settings.
     pub settings: &'a Settings,
-    ends: Vec<Vec<TrackletEnds>>,
+    ends: Vec<NightEnds>,
 }
 
 impl<'a> Model for Sky<'a> {
-    ghost use Rattle.std.specs.Prelude.{◌≡◌, map};
+    ghost use Rattle.std.specs.Prelude.{◌≡◌};
     ghost use Rattle.set_grow.specs.Ends.{ends_by_night as ends_by_night_of};
     ghost use Rattle.set_grow.specs.Nights.{AreInPlace};
     ghost use Rattle.set_grow.specs.SkyData.{SkyData};
@@ -44,7 +47,7 @@ impl<'a> Model for Sky<'a> {
       table = s.table.now;
     } };
 
-    ghost invariant = { λ s. AreInPlace s.nights.now s.table.now × (map (λ list. list.items) s.ends.items ≡ ends_by_night_of s.settings.now s.nights.now) };
+    ghost invariant = { λ s. AreInPlace s.nights.now s.table.now × (s.ends.items ≡ ends_by_night_of s.settings.now s.nights.now) };
 }
 
 impl<'a> Sky<'a> {
@@ -78,7 +81,17 @@ impl<'a> Sky<'a> {
         ensures { (d : NumberedNightData) → result.now ≡
             ends_in self.now.settings (without_numbers (get_or self.now.nights night d).tracklets) }
     {
-        self.ends[night].as_slice()
+        self.ends[night].each()
+    }
+
+    /// Where in declination the tracklets of a night begin that may be of one object with an item of another night.
+    pub fn range_around(&self, night: usize, item_night: usize, item: &TrackletEnds) -> DecRange
+        requires { night < length self.now.nights }
+        ensures { (d : NumberedNightData) (other : EndsData) →
+            Contains (ends_in self.now.settings (without_numbers (get_or self.now.nights night d).tracklets)) other →
+            MayGo self.now.settings item_night item.now night other → IsInRange result other.dec }
+    {
+        self.ends[night].range_around(night, item_night, item, self.settings)
     }
 
     /// The spots of the tracklet at a seat.

@@ -1,11 +1,13 @@
 //! The closed sets that hold one of some numbers.
-ghost use Rattle.std.specs.Prelude.{ℕ, List, ◌↔◌, map, IfOk};
+ghost use Rattle.std.specs.Prelude.{ℕ, List, ◌↔◌, length, map, IfOk};
 ghost use Rattle.std.specs.Cmp.Lexicographic.{slice_cmp};
 ghost use Rattle.std.specs.List.{Contains};
 ghost use Rattle.std.specs.List.Sorted.{IsStrictlySortedBy};
 ghost use Rattle.std.specs.Ordering.{nat_cmp};
 ghost use Rattle.closed_sets.specs.Around.{AreFittingPairs};
+ghost use Rattle.closed_sets.specs.Counting.{IsPaid};
 ghost use Rattle.closed_sets.specs.Families.{IsSet};
+ghost use Rattle.set_grow.specs.Costs.{HasAllWithOne, IsBounded, IsPaidByBoth, MayBeOfOne};
 ghost use Rattle.set_grow.specs.Growing.{AreClosedSetsWithOne, AreGrown, IsSetOf};
 ghost use Rattle.set_grow.specs.Nights.{AreInPlace, by_night};
 ghost use Rattle.set_grow.specs.SkyData.{FitsWithParts};
@@ -25,6 +27,10 @@ use std::alloc::Global;
 ///
 /// `nights` are in order of time. `table` leads from each number of their tracklets to its place;
 /// its entries of other numbers say nothing. The only error is want of memory.
+///
+/// The tally rises by at most `B + L * N` (`IsBounded`), also where memory is wanting: B counts each added number
+/// with two others where each two of the three may be of one object by their own boxes (`May`), L the numbers of
+/// fitting sets that hold an added one, and N the fitting sets of three or more that hold an added one.
 pub fn grow_numbered(
     alloc: Global,
     nights: &[NumberedNight<'_>],
@@ -36,6 +42,11 @@ pub fn grow_numbered(
     requires place { AreInPlace nights.now table.now }
     ensures sets { IfOk result (λ sets. AreClosedSetsWithOne settings.now (by_night nights.now)
         added.now (map (λ set. set.items) sets.items)) }
+    ensures tests { IsBounded (record {
+      settings = settings.now;
+      nights = nights.now;
+      table = table.now;
+    }) added.now tally.old.tests tally.new.tests }
 {
     let sky = Sky::of(alloc, nights, table, settings)?;
     let items = in_order_once(alloc, added)?;
@@ -51,8 +62,10 @@ fn closed_sets_of(
     tally: &mut Tally,
 ) -> Result<Vec<Vec<u32>>, NoMemory>
     requires { IsSet items.now }
-    ensures { IfOk result (λ found. AreGrown sky.now items.now
+    ensures sets { IfOk result (λ found. AreGrown sky.now items.now
         (map (λ set. set.items) found.items)) }
+    ensures paid { (numbers : List ℕ) → HasAllWithOne sky.now items.now numbers →
+        IsPaidByBoth sky.now items.now (length numbers) tally.old.tests tally.new.tests }
 {
     let mut found = Vec::new(alloc);
     for place in 0..items.len() {
@@ -90,7 +103,9 @@ fn pairs_around(
     item: u32,
     tally: &mut Tally,
 ) -> Result<Vec<(u32, u32)>, NoMemory>
-    ensures { IfOk result (λ pairs. AreFittingPairs (FitsWithParts sky.now) item pairs.items) }
+    ensures pairs { IfOk result (λ pairs.
+        AreFittingPairs (FitsWithParts sky.now) item pairs.items) }
+    ensures paid { IsPaid (MayBeOfOne sky.now item) 1 0 tally.old.tests tally.new.tests }
 {
     let Some(seat) = seat_of(sky.nights, sky.table, item) else {
         return Ok(Vec::new(alloc));

@@ -8,6 +8,7 @@ pub use growing::grow_numbered;
 pub use laws::{closed_sets_hold_all, maximal_tracks_are_closed, parts_fit, spots_tell_the_set};
 pub use nights::NumberedNight;
 pub use places::Place;
+pub use seats::{Seat, seats_of};
 
 mod ends;
 mod family;

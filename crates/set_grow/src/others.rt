@@ -3,7 +3,7 @@ ghost use Rattle.std.specs.Prelude.{◌+◌, ◌<◌, ◌≡◌, ◌++◌, ◌�
 ghost use Rattle.bound_prune.specs.EndsData.{EndsData};
 ghost use Rattle.set_grow.specs.Partners.{ArePartners, HoldPartners, IsPartner, partner_of};
 
-use crate::ends::may_go;
+use crate::ends::may_go_within;
 use crate::family::Sky;
 use crate::partners::Partner;
 use crate::seats::Seat;
@@ -37,8 +37,10 @@ fn push_partners(
     let nights = sky.nights;
     let numbers = nights[night].numbers();
     let ends = sky.ends_of(night);
+    let range = sky.range_around(night, item.seat.night, &item.ends);
     for place in 0..numbers.len() {
-        let wanted = may_go(
+        let wanted = may_go_within(
+            &range,
             item.seat.night,
             &item.ends,
             night,

@@ -2,10 +2,10 @@
 ghost use Rattle.std.specs.Prelude.{ℕ, ◌≡◌, ◌<◌, ◌↔◌, ◌⊎◌, ◌++◌, ◌∷◌, [], cond, IsTrue, IfOk, OnOk};
 ghost use Rattle.std.specs.List.{Contains};
 ghost use Rattle.closed_sets.specs.Around.{AreFittingPairs, FitTogether};
-ghost use Rattle.closed_sets.specs.Counting.{Rises};
+ghost use Rattle.closed_sets.specs.Counting.{AreDifferent, IsPaid, Rises};
 ghost use Rattle.set_grow.specs.Nights.{AreInPlace};
 ghost use Rattle.set_grow.specs.declared.partners.Partner.{Partner};
-ghost use Rattle.set_grow.specs.Partners.{ArePartners, FitApart, IsPairWith, IsPartner, IsPartnerOf, IsRisingPair, ordered as ordered_of};
+ghost use Rattle.set_grow.specs.Partners.{ArePartners, FitApart, IsPairWith, IsPartner, IsPartnerOf, IsRisingPair, IsTestedAmong, IsTestedOf, IsTestedWith, ordered as ordered_of, partner_numbers};
 ghost use Rattle.set_grow.specs.SkyData.{FitsWithParts};
 
 use crate::ends::may_go;
@@ -27,7 +27,8 @@ pub struct Partner {
     pub ends: TrackletEnds,
 }
 
-/// The fitting pairs around an item: two numbers each, the lesser first, that fit together with it.
+/// The fitting pairs around an item: two numbers each, the lesser first, that fit together with it. It makes at most
+/// one test for each two partners that may be of one object.
 pub fn fitting_pairs(
     alloc: Global,
     sky: &Sky<'_>,
@@ -38,8 +39,9 @@ pub fn fitting_pairs(
     requires place { AreInPlace sky.now.nights sky.now.table }
     requires item { IsPartner sky.now item.now }
     requires partners { ArePartners sky.now item.now partners.now }
-    ensures { IfOk result (λ pairs.
+    ensures pairs { IfOk result (λ pairs.
         AreFittingPairs (FitsWithParts sky.now) item.now.number pairs.items) }
+    ensures paid { IsPaid (IsTestedAmong sky.now partners.now) 1 0 tally.old.tests tally.new.tests }
 {
     let mut pairs = Vec::new(alloc);
     let mut rest = partners;
@@ -64,9 +66,12 @@ fn push_pairs(
     requires others { (other : Partner) → Contains others.now other →
         (IsPartnerOf sky.now item.now other ×
         IsRisingPair item.now.number (ordered_of one.now.number other.number)) }
-    ensures { OnOk result ((pair : ℕ × ℕ) → Contains pairs.new.items pair ↔
+    requires different { AreDifferent (partner_numbers others.now) }
+    ensures pairs { OnOk result ((pair : ℕ × ℕ) → Contains pairs.new.items pair ↔
         (Contains pairs.old.items pair ⊎
         IsPairWith sky.now item.now.number one.now others.now pair)) }
+    ensures paid { IsPaid (IsTestedWith sky.now one.now others.now) 1 0
+        tally.old.tests tally.new.tests }
 {
     for other in others {
         let fits = fit_apart(sky, item, one, other, tally);
@@ -107,7 +112,8 @@ fn fit_apart(
     requires other { IsPartnerOf sky.now item.now other.now }
     requires rising { IsRisingPair item.now.number (ordered_of one.now.number other.now.number) }
     ensures fits { IsTrue result ↔ FitApart sky.now item.now.number one.now other.now }
-    ensures tests { Rises 1 tally.old.tests tally.new.tests }
+    ensures paid { IsPaid (IsTestedOf sky.now one.now other.now) 1 0
+        tally.old.tests tally.new.tests }
 {
     if !may_go(
         one.seat.night,

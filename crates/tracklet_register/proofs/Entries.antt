@@ -7,8 +7,8 @@ use Rattle.std.proofs.Math.ListN.{set}
 use Rattle.std.specs.Int.Signed.{lt_z}
 use Rattle.std.specs.List.{All, Contains}
 use Rattle.std.specs.Ordering.{int_eq}
-use Rattle.sky_units.proofs.Members.{in_front, in_map, in_none, in_rest, of_map}
-use Rattle.tracklet_register.specs.Entries.{IsFirstOf, IsOther, isnt_before}
+use Rattle.sky_units.proofs.Members.{front_or_rest, in_front, in_map, in_none, in_rest, of_map}
+use Rattle.tracklet_register.specs.Entries.{IsFirstOf, IsOther, isnt_before, isnt_of}
 use Rattle.tracklet_register.specs.Registers.{HasNight, IsBefore, numbers_of}
 use Rattle.tracklet_register.specs.declared.nights.NightNumbers.{NightNumbers}
 
@@ -87,6 +87,39 @@ pub put_is_there : (nights : List NightNumbers) (i : ℕ) (e : NightNumbers) →
 put_is_there [] i e less = absurd (omega (arith, less))
 put_is_there (x ∷ nights) zero e less = in_front e.number (map (λ (night : NightNumbers). night.number) nights)
 put_is_there (x ∷ nights) (suc i) e less = in_rest x.number (map (λ (night : NightNumbers). night.number) (set nights i e)) e.number (put_is_there nights i e (omega (arith, less)))
+
+-- ---- entries that are there still
+pub pushed_keeps : (nights : List NightNumbers) (e : NightNumbers) (n : ℤ) → HasNight nights n → HasNight (nights ++ e ∷ []) n
+pushed_keeps nights e n h =
+    let w = of_map (λ (night : NightNumbers). night.number) nights n h in
+    subst (HasNight (nights ++ e ∷ [])) w.2 (in_map (λ (night : NightNumbers). night.number) (nights ++ e ∷ []) w.0 (Contains-append_left nights (e ∷ []) w.0 w.1))
+
+pub put_keeps : (nights : List NightNumbers) (n m : ℤ) (i : ℕ) (e : NightNumbers) → IsFirstOf nights n i → e.number ≡ n → HasNight nights m → HasNight (set nights i e) m
+put_keeps [] n m i e f is h = (let less = f.within in absurd (omega (arith, less)))
+put_keeps (x ∷ nights) n m zero e f is h = subst (λ (k : ℤ). Contains (k ∷ map (λ (night : NightNumbers). night.number) nights) m) (f.is x ∙ sym is) h
+put_keeps (x ∷ nights) n m (suc i) e f is h = elim (front_or_rest x.number (map (λ (night : NightNumbers). night.number) nights) m h) [
+  | inl s ↦ subst (HasNight (x ∷ set nights i e)) s (in_front x.number (map (λ (night : NightNumbers). night.number) (set nights i e)))
+  | inr d ↦ in_rest x.number (map (λ (night : NightNumbers). night.number) (set nights i e)) m (put_keeps nights n m i e (first_of_rest x nights n i f) is d)
+]
+
+-- ---- a night that goes
+pub left_gone : (nights : List NightNumbers) (number : ℤ) → numbers_of (filter (isnt_of number) nights) number ≡ []
+left_gone [] number = refl
+left_gone (e ∷ nights) number = elim (same_night e.number number) [
+  | inl w ↦ subst (λ b. numbers_of (cond (not b) (e ∷ filter (isnt_of number) nights) (filter (isnt_of number) nights)) number ≡ []) (sym w.1) (left_gone nights number)
+  | inr w ↦ subst (λ b. numbers_of (cond (not b) (e ∷ filter (isnt_of number) nights) (filter (isnt_of number) nights)) number ≡ []) (sym w.1) (other_numbers e (filter (isnt_of number) nights) number w.0 ∙ left_gone nights number)
+]
+
+pub left_kept : (nights : List NightNumbers) (number n : ℤ) → ¬ (n ≡ number) → numbers_of (filter (isnt_of number) nights) n ≡ numbers_of nights n
+left_kept [] number n differ = refl
+left_kept (e ∷ nights) number n differ = elim (same_night e.number number) [
+  | inl w ↦ subst (λ b. numbers_of (cond (not b) (e ∷ filter (isnt_of number) nights) (filter (isnt_of number) nights)) n ≡ numbers_of (e ∷ nights) n) (sym w.1)
+      (left_kept nights number n differ ∙ sym (other_numbers e nights n (λ s. differ (sym s ∙ w.0))))
+  | inr w ↦ subst (λ b. numbers_of (cond (not b) (e ∷ filter (isnt_of number) nights) (filter (isnt_of number) nights)) n ≡ numbers_of (e ∷ nights) n) (sym w.1) (elim (same_night e.number n) [
+    | inl v ↦ own_numbers e (filter (isnt_of number) nights) n v.0 ∙ sym (own_numbers e nights n v.0)
+    | inr v ↦ other_numbers e (filter (isnt_of number) nights) n v.0 ∙ (left_kept nights number n differ ∙ sym (other_numbers e nights n v.0))
+  ])
+]
 
 -- ---- nights that go
 -- a number of a night stands in an entry of it

@@ -15,7 +15,7 @@ use Rattle.tracklet_register.proofs.Numbered.{has_both, has_tracklet, number_the
 use Rattle.tracklet_register.proofs.Replaced.{each_once, one_night}
 use Rattle.tracklet_register.specs.Exchanges.{AreExchanged}
 use Rattle.tracklet_register.specs.Nights.{StandsIn}
-use Rattle.tracklet_register.specs.Registers.{DifferAt, IsBefore, IsCutBefore, IsRegister, LeadsToPlaces, numbers_of, with_numbers}
+use Rattle.tracklet_register.specs.Registers.{DifferAt, IsBefore, IsCutBefore, IsRegister, IsWithout, LeadsToPlaces, numbers_of, with_numbers}
 use Rattle.tracklet_register.specs.Replacing.{IsReplaced}
 use Rattle.tracklet_register.specs.declared.nights.NightNumbers.{NightNumbers}
 
@@ -168,3 +168,33 @@ none_left before after first went apart gone kept night number d c = by_lt_z nig
     (λ n.
     let late : ¬ (night <ℤ first) = λ l. omega (arith, ints, n, l) in
     apart night number late d (subst (λ (list : List ℕ). Contains list number) (kept night late) c))
+
+-- ---- a night that goes
+pub without : (table : List Place) (register : List NightNumbers) (number : ℤ) (went : List ℕ) → LeadsToPlaces table register → ((n : ℕ) → Contains went n ↔ Contains (numbers_of register number) n)
+    → (old new : List NightData) → IsWithout number old new → AreExchanged went [] (with_numbers register old) (with_numbers register new)
+without table register number went leads own old new differ = record {
+  there = record {
+    stay = λ night one s stays.
+        let w = of_stands register old night one s in
+        let here : Contains (numbers_of register night) one.num = (has_both (numbers_of register night) w.0.tracklets one w.3).0 in
+        let other : ¬ (w.0.number ≡ number) = λ e. stays ((own one.num).1 (subst (λ n. Contains (numbers_of register n) one.num) (sym w.2 ∙ e) here)) in
+        stands register new night one w.0 (differ.stay w.0 other w.1) w.2 w.3;
+    none = λ night one s gone.
+        let w = of_stands register new night one s in
+        let here : Contains (numbers_of register night) one.num = (has_both (numbers_of register night) w.0.tracklets one w.3).0 in
+        differ.other w.0 w.1 (w.2 ∙ one_night table register night number one.num leads here ((own one.num).0 gone));
+  };
+  back = record {
+    stay = λ night one s never. (let w = of_stands register new night one s in stands register old night one w.0 (differ.stood w.0 w.1) w.2 w.3);
+    none = λ night one s. in_none one.num;
+  };
+}
+
+-- once a night is forgotten, no tracklet has one of its numbers
+pub none_of_it : (before after : List NightNumbers) (number : ℤ) (went : List ℕ) → ((night : ℤ) (n : ℕ) → ¬ (night ≡ number) → Contains went n → ¬ (Contains (numbers_of before night) n))
+    → numbers_of after number ≡ [] → ((night : ℤ) → ¬ (night ≡ number) → numbers_of after night ≡ numbers_of before night)
+    → (night : ℤ) (n : ℕ) → Contains went n → ¬ (Contains (numbers_of after night) n)
+none_of_it before after number went apart gone kept night n d c = elim (same_night night number) [
+  | inl w ↦ in_none n (subst (λ (list : List ℕ). Contains list n) (ap (numbers_of after) w.0 ∙ gone) c)
+  | inr w ↦ apart night n w.0 d (subst (λ (list : List ℕ). Contains list n) (kept night w.0) c)
+]

@@ -9,12 +9,12 @@ use Rattle.set_grow.proofs.Members.{in_none}
 use Rattle.set_grow.specs.Nights.{numbered_by}
 use Rattle.set_grow.specs.declared.places.Place.{Place}
 use Rattle.sky_units.specs.TrackletData.{NightTracklets}
-use Rattle.tracklet_register.proofs.Entries.{cut_gone, cut_kept, same_night}
+use Rattle.tracklet_register.proofs.Entries.{cut_gone, cut_kept, left_gone, left_kept, same_night}
 use Rattle.tracklet_register.proofs.Lists.{at_place, of_place}
 use Rattle.tracklet_register.proofs.Marks.{place_at, taken_within}
 use Rattle.tracklet_register.proofs.Numbered.{has_both, has_tracklet, tells, with_number}
 use Rattle.tracklet_register.proofs.Renewal.{AreHeld}
-use Rattle.tracklet_register.specs.Entries.{isnt_before}
+use Rattle.tracklet_register.specs.Entries.{isnt_before, isnt_of}
 use Rattle.tracklet_register.specs.Registers.{HasNight, IsRegister, LeadsToPlaces, is_taken, numbers_of}
 use Rattle.tracklet_register.specs.Replacing.{AreDifferent, AreRenewed, CanReturn, IsReplaced}
 use Rattle.tracklet_register.specs.declared.nights.NightNumbers.{NightNumbers}
@@ -250,3 +250,23 @@ cut_register nights table taken first r = record {
   where
     before_or_not : (a b : ℤ) → (a <ℤ b) ⊎ (¬ (a <ℤ b))
     before_or_not a b = by_lt_z a b (λ l. inl l) (λ n. inr (λ l. omega (arith, ints, n, l)))
+
+pub left_register : (nights : List NightNumbers) (table : List Place) (taken : List Bool) (number : ℤ) → IsRegister nights table taken → IsRegister (filter (isnt_of number) nights) table taken
+left_register nights table taken number r = record {
+  leads = λ night place n e. elim (same_night night number) [
+    | inl w ↦ (let within = slice_get_within [] place n (ap (λ (list : List ℕ). slice_get list place) (sym (none_left night w.0)) ∙ e) in absurd (omega (arith, within)))
+    | inr w ↦ r.leads night place n (ap (λ (list : List ℕ). slice_get list place) (sym (left_kept nights number night w.0)) ∙ e)
+  ];
+  held = λ night n c. elim (same_night night number) [
+    | inl w ↦ absurd (in_none n (subst (λ (list : List ℕ). Contains list n) (none_left night w.0) c))
+    | inr w ↦ r.held night n (subst (λ (list : List ℕ). Contains list n) (left_kept nights number night w.0) c)
+  ];
+  within = r.within;
+  few = λ night. elim (same_night night number) [
+    | inl w ↦ (let few = r.few night in subst (λ (list : List ℕ). length list < 2 ^ 32) (sym (none_left night w.0)) (omega (arith, few)))
+    | inr w ↦ subst (λ (list : List ℕ). length list < 2 ^ 32) (sym (left_kept nights number night w.0)) (r.few night)
+  ];
+}
+  where
+    none_left : (night : ℤ) → night ≡ number → numbers_of (filter (isnt_of number) nights) night ≡ []
+    none_left night e = subst (λ n. numbers_of (filter (isnt_of number) nights) n ≡ []) (sym e) (left_gone nights number)

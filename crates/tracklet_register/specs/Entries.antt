@@ -2,6 +2,7 @@
 use Rattle.std.specs.Prelude.{ℕ, ◌≡◌, ◌<◌, ℤ, Bool, List, not, length, get_or, take}
 use Rattle.std.specs.Int.Signed.{lt_z}
 use Rattle.std.specs.List.{All}
+use Rattle.std.specs.Ordering.{int_eq}
 use Rattle.tracklet_register.specs.declared.nights.NightNumbers.{NightNumbers}
 
 -- an entry of another night
@@ -17,3 +18,7 @@ pub record IsFirstOf (nights : List NightNumbers) (number : ℤ) (index : ℕ) :
 -- whether an entry is of no night before one
 abbrev pub isnt_before : ℤ → NightNumbers → Bool
 isnt_before first night = not (lt_z night.number first)
+
+-- whether an entry is of another night
+abbrev pub isnt_of : ℤ → NightNumbers → Bool
+isnt_of number night = not (int_eq night.number number)

@@ -68,3 +68,9 @@ pub record IsCutBefore (first : ℤ) (old new : List NightData) : Type 0 where
   pub stay : (kept : NightData) → ¬ (kept.number <ℤ first) → Contains old kept → Contains new kept
   pub stood : (kept : NightData) → Contains new kept → Contains old kept
   pub late : (kept : NightData) → Contains new kept → ¬ (kept.number <ℤ first)
+
+-- of two lists of nights the second has those of the first that are not the night of a number
+pub record IsWithout (number : ℤ) (old new : List NightData) : Type 0 where
+  pub stay : (kept : NightData) → ¬ (kept.number ≡ number) → Contains old kept → Contains new kept
+  pub stood : (kept : NightData) → Contains new kept → Contains old kept
+  pub other : (kept : NightData) → Contains new kept → ¬ (kept.number ≡ number)

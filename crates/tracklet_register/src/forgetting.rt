@@ -2,7 +2,7 @@
 ghost use Rattle.std.specs.Prelude.{ℕ, ◌≡◌, ◌⊎◌, ◌↔◌, ℤ, ◌<ℤ◌, [], IfOk, OnOk};
 ghost use Rattle.std.specs.List.{Contains, filter};
 ghost use Rattle.std.specs.Int.Signed.{lt_z};
-ghost use Rattle.tracklet_register.specs.Entries.{isnt_before};
+ghost use Rattle.tracklet_register.specs.Entries.{isnt_before, isnt_of};
 ghost use Rattle.tracklet_register.specs.Registers.{IsBefore, numbers_of};
 
 use crate::nights::{NightNumbers, numbers_of};
@@ -40,6 +40,13 @@ fn push_before(
         numbers.extend_from_slice(numbers_of(nights, night))?;
     }
     Ok(())
+}
+
+/// Forgets a night.
+pub fn forget_night(nights: &mut Vec<NightNumbers>, number: i64)
+    ensures { nights.new.items ≡ filter (isnt_of number) nights.old.items }
+{
+    nights.retain(|night| night.number != number);
 }
 
 /// Forgets the nights before one.

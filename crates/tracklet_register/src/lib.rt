@@ -6,7 +6,9 @@ pub use laws::{
     numbered_nights_are_in_place, numbered_nights_are_numbered,
 };
 pub use nights::NightNumbers;
+pub use numbering::numbered_nights;
 pub use register::TrackletRegister;
+pub use renewing::in_order;
 pub use replacing::Exchange;
 
 mod forgetting;
@@ -14,6 +16,7 @@ mod laws;
 mod marking;
 mod matching;
 mod nights;
+mod numbering;
 mod register;
 mod renewing;
 mod replacing;

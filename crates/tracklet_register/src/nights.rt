@@ -46,6 +46,8 @@ pub fn enter_night(
     ensures same { (night : ℤ) →
         numbers_of nights.new.items night ≡ numbers_of nights.old.items night }
     ensures there { OnOk result (HasNight nights.new.items number) }
+    ensures entered { (night : ℤ) → HasNight nights.old.items night →
+        HasNight nights.new.items night }
 {
     if let Some(_) = index_of(nights.as_slice(), number) {
         return Ok(());
@@ -64,6 +66,8 @@ pub fn put_numbers(nights: &mut Vec<NightNumbers>, number: i64, numbers: Vec<u32
     ensures others { (night : ℤ) → ¬ (night ≡ number) →
         numbers_of nights.new.items night ≡ numbers_of nights.old.items night }
     ensures there { HasNight nights.new.items number }
+    ensures entered { (night : ℤ) → HasNight nights.old.items night →
+        HasNight nights.new.items night }
 {
     if let Some(index) = index_of(nights.as_slice(), number) {
         nights[index] = NightNumbers { number, numbers };

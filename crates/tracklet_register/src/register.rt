@@ -5,10 +5,10 @@ ghost use Rattle.closed_sets.specs.Families.{IsSet};
 ghost use Rattle.night_tree.specs.Nights.{NightData};
 ghost use Rattle.set_grow.specs.Nights.{LeadsToEach};
 ghost use Rattle.tracklet_register.specs.Exchanges.{AreExchanged};
-ghost use Rattle.tracklet_register.specs.Registers.{AreAlike, DifferAt, IsBefore, IsCutBefore, LeadsToPlaces, is_taken, numbers_of, with_numbers};
+ghost use Rattle.tracklet_register.specs.Registers.{AreAlike, DifferAt, HasNight, IsBefore, IsCutBefore, IsWithout, LeadsToPlaces, is_taken, numbers_of, with_numbers};
 ghost use Rattle.tracklet_register.specs.Replacing.{AreDifferent, CanReturn, IsReplaced};
 
-use crate::forgetting::{forget_before, numbers_before};
+use crate::forgetting::{forget_before, forget_night, numbers_before};
 use crate::marking::mark;
 use crate::nights::{NightNumbers, numbers_of};
 use crate::renewing::in_order;
@@ -93,6 +93,8 @@ impl TrackletRegister {
             AreExchanged exchange.went.items exchange.came.items
             (with_numbers self.old.nights old) (with_numbers self.new.nights new)) }
         ensures same { OnErr result (AreAlike self.old self.new) }
+        ensures entered { (other : ℤ) → HasNight self.old.nights other →
+            HasNight self.new.nights other }
     {
         let numbers = numbers_of(self.nights.as_slice(), night);
         let prepared = prepare(alloc, numbers, before, after, self.taken.as_slice())?;
@@ -120,6 +122,8 @@ impl TrackletRegister {
             is_taken self.new.taken number ≡ false }
         ensures others { (number : ℕ) → ¬ (Contains exchange.came.items number) →
             is_taken self.new.taken number ≡ is_taken self.old.taken number }
+        ensures entered { (other : ℤ) → HasNight self.old.nights other →
+            HasNight self.new.nights other }
     {
         put(&mut self.nights, &mut self.table, night, exchange.before);
         mark(&mut self.taken, exchange.came.as_slice(), false);
@@ -151,6 +155,31 @@ impl TrackletRegister {
     {
         let numbers = numbers_before(alloc, self.nights.as_slice(), first)?;
         Ok(in_order(numbers))
+    }
+
+    /// The numbers of the tracklets of a night, in order of the numbers.
+    pub fn numbers_of_night(&self, alloc: Global, night: i64) -> Result<Vec<u32>, NoMemory>
+        ensures in_order { IfOk result (λ numbers. IsSet numbers.items) }
+        ensures exactly { IfOk result (λ numbers. (number : ℕ) → Contains numbers.items number ↔
+            Contains (numbers_of self.now.nights night) number) }
+        ensures apart { IfOk result (λ numbers. (other : ℤ) (number : ℕ) → ¬ (other ≡ night) →
+            Contains numbers.items number → ¬ (Contains (numbers_of self.now.nights other) number)) }
+        ensures exchanged { IfOk result (λ numbers. (old new : List NightData) →
+            IsWithout night old new → AreExchanged numbers.items []
+            (with_numbers self.now.nights old) (with_numbers self.now.nights new)) }
+    {
+        let numbers = Vec::from_slice(alloc, numbers_of(self.nights.as_slice(), night))?;
+        Ok(in_order(numbers))
+    }
+
+    /// Forgets a night. Its numbers are not free before they are released. This takes no memory.
+    pub fn forget_night(&mut self, night: i64)
+        ensures gone { numbers_of self.new.nights night ≡ [] }
+        ensures kept { (other : ℤ) → ¬ (other ≡ night) →
+            numbers_of self.new.nights other ≡ numbers_of self.old.nights other }
+        ensures taken { self.new.taken ≡ self.old.taken }
+    {
+        forget_night(&mut self.nights, night);
     }
 
     /// Forgets the nights before one. Their numbers are not free before they are released. This takes

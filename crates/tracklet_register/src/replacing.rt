@@ -89,6 +89,8 @@ pub fn make_room(
         is_taken taken.new.items number ≡ is_taken taken.old.items number }
     ensures longer { length table.old.items ≤ length table.new.items }
     ensures there { OnOk result (HasNight nights.new.items night) }
+    ensures entered { (other : ℤ) → HasNight nights.old.items other →
+        HasNight nights.new.items other }
     ensures room { OnOk result ((end ≤ length table.new.items) × (end ≤ length taken.new.items)) }
 {
     lengthen(table, taken, end)?;
@@ -109,6 +111,8 @@ pub fn put(nights: &mut Vec<NightNumbers>, table: &mut Vec<Place>, night: i64, n
     ensures others { (other : ℤ) → ¬ (other ≡ night) →
         numbers_of nights.new.items other ≡ numbers_of nights.old.items other }
     ensures there { HasNight nights.new.items night }
+    ensures entered { (other : ℤ) → HasNight nights.old.items other →
+        HasNight nights.new.items other }
     ensures leads { LeadsToPlaces table.new.items nights.new.items }
     ensures len { length table.new.items ≡ length table.old.items }
 {

@@ -7,7 +7,7 @@ ghost use Rattle.tracklet_register.specs.Replacing.{AreDifferent};
 use crate::matching::are_equal;
 use crate::{
     TrackletRegister, exchange_changes_fits, exchanges_follow, fits_are_of_finitely_many,
-    numbered_nights_are_in_place, numbered_nights_are_numbered,
+    numbered_nights, numbered_nights_are_in_place, numbered_nights_are_numbered,
 };
 use sky_units::{NoMemory, Spot, Tracklet};
 use std::alloc::Global;
@@ -102,6 +102,14 @@ fn forgotten(
     format!(in alloc; "{numbers:?}")
 }
 
+/// The numbers of a night, which is forgotten, and its numbers released.
+fn let_go(alloc: Global, register: &mut TrackletRegister, night: i64) -> Result<String, NoMemory> {
+    let numbers = register.numbers_of_night(alloc, night)?;
+    register.forget_night(night);
+    register.release(numbers.as_slice());
+    format!(in alloc; "{numbers:?}")
+}
+
 /// What one replacement after another does: its tracklets, what is done then, and its text.
 #[derive(Drop)]
 struct Step<'a> {
@@ -169,6 +177,30 @@ fn nights_go(rt: HostRuntime) -> Result<(), NoMemory> {
     assert_eq!(rt; all.as_str(), "[0, 1]");
     assert_eq!(rt; register.numbers(59_000).len(), 0);
     assert_eq!(rt; register.table().len(), 2);
+    Ok(())
+}
+
+#[test]
+fn a_night_goes(rt: HostRuntime) -> Result<(), NoMemory> {
+    let alloc = rt.alloc();
+    let mut register = TrackletRegister::new(alloc);
+    let rows: [&[u32]; 2] = [&[1, 2], &[3, 4]];
+    let night = tracklets(alloc, &rows)?;
+    replaced(alloc, &mut register, &[], night.as_slice(), "keep")?;
+    let none = let_go(alloc, &mut register, 59_001)?;
+    assert_eq!(rt; none.as_str(), "[]");
+    assert_eq!(rt; register.numbers(59_000).len(), 2);
+    let all = let_go(alloc, &mut register, 59_000)?;
+    assert_eq!(rt; all.as_str(), "[0, 1]");
+    assert_eq!(rt; register.numbers(59_000).len(), 0);
+    Ok(())
+}
+
+#[test]
+fn no_nights(rt: HostRuntime) -> Result<(), NoMemory> {
+    let register = TrackletRegister::new(rt.alloc());
+    let nights = numbered_nights(rt.alloc(), &register, &[])?;
+    assert_eq!(rt; nights.len(), 0);
     Ok(())
 }
 

@@ -11,6 +11,8 @@ pub use state::Linker;
 
 mod answers;
 mod asking;
+#[cfg(test)]
+mod comparison_tests;
 mod laws;
 mod listing;
 mod state;

@@ -42,7 +42,7 @@ const TRACKLET: &str = "a1 59000.25 10 5 20 568 o\n\
 a2 59000.27 10.002 5 20 568 o";
 
 /// A linker with a window of thirty nights, and nothing held.
-fn linker_of(alloc: Global) -> Result<Linker, Fail> {
+pub(crate) fn linker_of(alloc: Global) -> Result<Linker, Fail> {
     let mut linker = Linker::new(alloc, Settings::standard())?;
     linker.set_window(59_000, 59_029, &mut Tally::zero())?;
     Ok(linker)
@@ -67,18 +67,18 @@ fn exposures_of(alloc: Global, lines: &str) -> Result<Vec<Exposure>, Fail> {
 }
 
 /// Holds the exposures of the detections of some lines, and says how many these are.
-fn hold(linker: &mut Linker, alloc: Global, lines: &str) -> Result<usize, Fail> {
+pub(crate) fn hold(linker: &mut Linker, alloc: Global, lines: &str) -> Result<usize, Fail> {
     let exposures = exposures_of(alloc, lines)?;
     Ok(linker.hold_all(exposures, &mut Tally::zero())?.len())
 }
 
 /// The number of tracks of the report.
-fn reported(linker: &Linker) -> Result<usize, NoMemory> {
+pub(crate) fn reported(linker: &Linker) -> Result<usize, NoMemory> {
     Ok(linker.report(&mut Tally::zero())?.tracks.items().len())
 }
 
 /// The number of tracks that an enumeration of all fitting sets finds.
-fn enumerated(linker: &Linker, alloc: Global) -> Result<usize, NoMemory> {
+pub(crate) fn enumerated(linker: &Linker, alloc: Global) -> Result<usize, NoMemory> {
     let settings = linker.settings();
     let list = plain_tracks::maximal_tracks(alloc, linker.nights(), settings)?;
     Ok(list.len())

@@ -2,7 +2,7 @@ use Rattle.std.proofs.Common.{sym, ◌∙◌}
 use Rattle.box_tree.specs.Nodes.{run}
 use Rattle.box_tree.proofs.Counting.{rises_none}
 use Rattle.box_tree.proofs.Found.{on_ok}
-use Rattle.box_tree.proofs.TriplesOf.{adds_first, adds_second, adds_third, none_wanted, rises_first, rises_first_part, rises_second, rises_second_part, rises_third, rises_third_part}
+use Rattle.box_tree.proofs.TriplesOf.{adds_first, adds_second, none_wanted, rises_first, rises_first_part, rises_second, rises_second_part}
 use Rattle.box_tree.proofs.three.+join_nodes.Goals as goal
 
 pub returns-then-not-may-clause-adds : goal.returns-then-not-may-clause-adds
@@ -34,12 +34,3 @@ returns-in-Some-halves_of-clause-adds g t c = on_ok _ (λ later. adds_second _ _
 
 pub returns-in-Some-halves_of-clause-tests : goal.returns-in-Some-halves_of-clause-tests
 returns-in-Some-halves_of-clause-tests g t c = rises_second _ _ _ _ _ _ _ _ _ c.in-Some-halves_of.ensures.joined c.in_ok-join_nodes-2.ensures.tests c.join_nodes-in-Some-halves_of-2.ensures.tests
-
-pub returns-in_err-join_nodes-3-clause-tests : goal.returns-in_err-join_nodes-3-clause-tests
-returns-in_err-join_nodes-3-clause-tests g t c = rises_third_part _ _ _ _ _ _ _ _ c.in-Some-halves_of-2.ensures.joined c.in_err-join_nodes-3.ensures.tests
-
-pub returns-in-Some-halves_of-2-clause-adds : goal.returns-in-Some-halves_of-2-clause-adds
-returns-in-Some-halves_of-2-clause-adds g t c = on_ok _ (λ later. adds_third _ _ _ _ _ _ _ _ _ c.in-Some-halves_of-2.ensures.joined c.in_ok-join_nodes-3.ensures.adds later) c.join_nodes-in-Some-halves_of-2-3.ensures.adds
-
-pub returns-in-Some-halves_of-2-clause-tests : goal.returns-in-Some-halves_of-2-clause-tests
-returns-in-Some-halves_of-2-clause-tests g t c = rises_third _ _ _ _ _ _ _ _ _ c.in-Some-halves_of-2.ensures.joined c.in_ok-join_nodes-3.ensures.tests c.join_nodes-in-Some-halves_of-2-3.ensures.tests

@@ -5,6 +5,18 @@ use Rattle.box_tree.proofs.OwnBoxes.{own_lies}
 use Rattle.box_tree.proofs.TriplesOf.{adds_second, none_wanted, rises_second, rises_second_part}
 use Rattle.box_tree.proofs.three.join_row.Goals as goal
 
+pub join_pair-requires-clause-own : goal.join_pair-requires-clause-own
+join_pair-requires-clause-own g c =
+    let a = g.A.Located in
+    own_lies a.AXES a.lows a.highs c.args.a.now.items.items c.args.place c.index.result.now c.own_bounds-own.result g.met.A.Located.few_axes.1 c.requires.place c.index.ensures c.own_bounds-own.ensures
+
+pub join_pair-requires-clause-partners_own : goal.join_pair-requires-clause-partners_own
+join_pair-requires-clause-partners_own g c =
+    let b = g.B.Located in
+    let i : ℕ = c.loop-other.other-index in
+    let other : ℕ = get_or c.run_of-others.result.now i 0 in
+    own_lies b.AXES b.lows b.highs c.args.b.now.items.items other c.index-in-loop-other.result.now c.own_bounds-partners_own.result g.met.B.Located.few_axes.1 (c.run_of-others.ensures.places i 0 c.loop-other-test.true) c.index-in-loop-other.ensures c.own_bounds-partners_own.ensures
+
 pub returns-then-not-may-clause-adds : goal.returns-then-not-may-clause-adds
 returns-then-not-may-clause-adds g c =
     let a = g.A.Located in

@@ -19,7 +19,7 @@ returns-in_ok-union-clause-filed c =
     let union : c.of.result ≡ with_pair c.items.result.now c.args.pair = c.of.ensures ∙ c.in_ok-union.ensures in
     let items : c.items.result.now ≡ c.index.result.now = c.items.ensures in
     let group : c.items.result.now ≡ get_or c.args.groups.now.items c.in_ok-at.at c.items.result.now = rw items c.index.ensures in
-    filed_joined c.args.spots.now c.args.grid.width (map (λ list. list.items) c.args.strips.now.items) c.args.groups.now.items c.in_ok-at.at c.args.pair c.items.result.now c.of.result within group union c.requires.filed
+    filed_joined c.args.spots.now c.args.grid.width c.args.pair.0 (map (λ list. list.items) c.args.strips.now.items) c.args.groups.now.items c.in_ok-at.at c.args.pair c.items.result.now c.of.result within group union c.requires.filed
 
 pub returns-in_ok-push-clause-groups : goal.returns-in_ok-push-clause-groups
 returns-in_ok-push-clause-groups c =

@@ -2,7 +2,7 @@ use Rattle.std.proofs.Common.{◌-◌, ◌/◌, ◌+◌, ◌<◌, ℕ, [], lengt
 use Rattle.std.proofs.lemmas.List.{length-map}
 use Rattle.std.specs.List.{All}
 use Rattle.std.specs.Prelude.{min}
-use Rattle.collapse.specs.Strips.{IsEntry}
+use Rattle.collapse.specs.Strips.{IsEntry, PlacesDontFall}
 use Rattle.collapse.proofs.Searching.{found_in_strips, list_read, searched_one, strip_within}
 use Rattle.collapse.proofs.joining.first_to_join.Goals as goal
 
@@ -25,3 +25,9 @@ returns c =
     let end = c.min-strip-end.ensures ∙ ap (λ (h : ℕ). min (length c.args.strips.now) ((h + c.args.grid.reach) / c.args.grid.width + 1)) here in
     found_in_strips (λ list. list.items) c.args.settings.now c.args.spots.now c.args.pair c.args.groups.now c.args.strips.now c.args.grid.width c.args.grid.reach c.saturating_sub.result c.min-strip-end.result c.loop-strip.strip c.loop-strip.first c.index-spots-pair.result
     c.requires.pair c.requires.groups c.requires.grid.positive c.requires.grid.covers c.requires.filed c.index-spots-pair.is low end c.loop-strip-test.false c.loop-strip.invariant
+
+pub first_in-requires-clause-in_order : goal.first_in-requires-clause-in_order
+first_in-requires-clause-in_order c =
+    let inside : c.loop-strip.strip < length c.args.strips.now = strip_within c.loop-strip.strip c.min-strip-end.result (length c.args.strips.now) _ c.loop-strip-test.true c.min-strip-end.ensures in
+    let read = c.as_slice.ensures.value ∙ list_read (λ list. list.items) c.args.strips.now c.loop-strip.strip c.index-strips-strip.result inside c.index-strips-strip.is in
+    subst PlacesDontFall (sym read) (c.requires.filed.in_order c.loop-strip.strip [] (omega (arith, inside, length-map c.args.strips.now (λ list. list.items)))).places

@@ -34,12 +34,12 @@ returns-in-Err-NoMemory-clause-reads g c =
 pub returns-in-Err-Failed-clause-reads : goal.returns-in-Err-Failed-clause-reads
 returns-in-Err-Failed-clause-reads g c =
     Reads-read_fault _ _ _ _ _ _ _ _ _ _ _ _ c.loop-line.invariant.0 (c.in-Err-Failed.is ∙ ap (λ e. Err e) c.in-Err-Failed.field-0-is)
-    c.next.ensures.faults c.next.ensures.counts c.next.ensures.limit
+    (λ h. (c.next.ensures.over h).0) c.next.ensures.failed c.next.ensures.faults c.next.ensures.counts c.next.ensures.limit
 
 pub returns-in-Err-TooLong-clause-reads : goal.returns-in-Err-TooLong-clause-reads
 returns-in-Err-TooLong-clause-reads g c =
     Reads-too_long _ _ _ _ _ _ _ _ _ _ _ _ c.loop-line.invariant.0 (c.in-Err-TooLong.is ∙ ap (λ e. Err e) c.in-Err-TooLong.field-0-is)
-    c.next.ensures.faults c.next.ensures.counts c.next.ensures.limit
+    (λ h. (c.next.ensures.over h).0) c.next.ensures.too_long c.next.ensures.faults c.next.ensures.counts c.next.ensures.limit
 
 pub returns-in-Ok-finish-clause-reads : goal.returns-in-Ok-finish-clause-reads
 returns-in-Ok-finish-clause-reads g c =

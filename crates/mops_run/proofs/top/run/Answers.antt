@@ -18,6 +18,9 @@ returns-clause-whole g c = for_form _ _ _ (sym c.form_of.ensures.form ∙ c.in-S
 pub returns-clause-front : goal.returns-clause-front
 returns-clause-front g c = for_form _ _ _ (sym c.form_of.ensures.form ∙ c.in-Some.is) c.run_form.ensures.runs.front
 
+pub returns-clause-part : goal.returns-clause-part
+returns-clause-part g c = λ stops. for_form _ _ _ (sym c.form_of.ensures.form ∙ c.in-Some.is) (c.run_form.ensures.runs.part stops)
+
 pub returns-clause-spent : goal.returns-clause-spent
 returns-clause-spent g c = for_form _ _ _ (sym c.form_of.ensures.form ∙ c.in-Some.is) c.run_form.ensures.runs.spent
 

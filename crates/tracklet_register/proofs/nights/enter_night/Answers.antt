@@ -1,8 +1,8 @@
-use Rattle.std.proofs.Common.{List, subst, ap, ◌∙◌, to_z, of_z, w64}
+use Rattle.std.proofs.Common.{List, sym, subst, ap, ◌∙◌, to_z, of_z, w64}
 use Rattle.std.proofs.lemmas.Int.{to_z-of_z}
-use Rattle.tracklet_register.proofs.Entries.{first_is_there, pushed_of}
+use Rattle.tracklet_register.proofs.Entries.{first_is_there, pushed_keeps, pushed_of}
 use Rattle.tracklet_register.specs.Entries.{IsFirstOf}
-use Rattle.tracklet_register.specs.Registers.{numbers_of}
+use Rattle.tracklet_register.specs.Registers.{HasNight, numbers_of}
 use Rattle.tracklet_register.specs.declared.nights.NightNumbers.{NightNumbers}
 use Rattle.tracklet_register.proofs.nights.enter_night.Goals as goal
 
@@ -13,3 +13,6 @@ returns-in-Some-clause-there c =
 
 pub returns-clause-same : goal.returns-clause-same
 returns-clause-same c = λ night. ap (λ (nights : List NightNumbers). numbers_of nights night) c.in_ok-push.ensures.items ∙ pushed_of c.args.nights.now.items _ night c.new.ensures.items
+
+pub returns-clause-entered : goal.returns-clause-entered
+returns-clause-entered c = λ night there. subst (λ (nights : List NightNumbers). HasNight nights night) (sym c.in_ok-push.ensures.items) (pushed_keeps c.args.nights.now.items _ night there)

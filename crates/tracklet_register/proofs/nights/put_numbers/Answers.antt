@@ -1,7 +1,7 @@
 use Rattle.std.proofs.Common.{◌≡◌, ℕ, ℤ, List, subst, to_z, of_z, w64}
 use Rattle.std.proofs.lemmas.Int.{to_z-of_z}
 use Rattle.std.specs.List.{All}
-use Rattle.tracklet_register.proofs.Entries.{isnt_there, put_elsewhere, put_here, put_is_there}
+use Rattle.tracklet_register.proofs.Entries.{isnt_there, put_elsewhere, put_here, put_is_there, put_keeps}
 use Rattle.tracklet_register.specs.Entries.{IsFirstOf, IsOther}
 use Rattle.tracklet_register.specs.Registers.{HasNight}
 use Rattle.tracklet_register.specs.declared.nights.NightNumbers.{NightNumbers}
@@ -26,6 +26,11 @@ returns-in-Some-clause-there c =
     let plain = to_z-of_z w64 c.args.number c.ranges.number in
     let first : IsFirstOf c.args.nights.now.items c.args.number c.in-Some.index = found _ _ _ c.args.number c.in-Some.index c.as_slice.ensures.value plain c.in-Some.ensures in
     subst (HasNight _) plain (put_is_there c.args.nights.now.items c.in-Some.index _ first.within)
+
+pub returns-in-Some-clause-entered : goal.returns-in-Some-clause-entered
+returns-in-Some-clause-entered c =
+    let plain = to_z-of_z w64 c.args.number c.ranges.number in
+    λ night there. put_keeps c.args.nights.now.items c.args.number night c.in-Some.index _ (found _ _ _ c.args.number c.in-Some.index c.as_slice.ensures.value plain c.in-Some.ensures) plain there
 
 pub returns-in_default-clause-here : goal.returns-in_default-clause-here
 returns-in_default-clause-here c =

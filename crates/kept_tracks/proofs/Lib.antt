@@ -1,0 +1,12 @@
+pub mod Copied
+pub mod LeftNights
+pub mod Lent
+pub mod Listed
+pub mod NightChanges
+pub mod NothingKept
+pub mod OneByOne
+pub mod Released
+pub mod Restored
+pub mod SetChanges
+pub mod SeveralNights
+pub mod Undone

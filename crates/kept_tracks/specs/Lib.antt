@@ -1,0 +1,5 @@
+pub mod Costs
+pub mod KeptFor
+pub mod SeveralNights
+pub mod Stages
+pub mod Undoing
