@@ -16,3 +16,7 @@ pub mod AskedTracks
 pub mod AskedOnce
 pub mod AskedFound
 pub mod AskedExists
+pub mod OrderLists
+pub mod OrderSteps
+pub mod OrderHeld
+pub mod OrderReports

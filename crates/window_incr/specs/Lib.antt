@@ -4,3 +4,4 @@ pub mod Soundness
 pub mod Laws
 pub mod Asked
 pub mod Asking
+pub mod Order

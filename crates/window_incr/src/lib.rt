@@ -7,6 +7,7 @@ pub use laws::{
     asked_exists, asked_is_unique, report_exists, report_follows, report_is_unique,
     stats_are_unique, stats_exist,
 };
+pub use order_laws::{each_is_taken_once, report_in_any_order};
 pub use state::Linker;
 
 mod answers;
@@ -15,6 +16,7 @@ mod asking;
 mod comparison_tests;
 mod laws;
 mod listing;
+mod order_laws;
 mod state;
 #[cfg(test)]
 mod tests;
