@@ -4,3 +4,6 @@ pub mod Soundness
 pub mod Laws
 pub mod Asked
 pub mod Asking
+pub mod Results
+pub mod Keeping
+pub mod Work

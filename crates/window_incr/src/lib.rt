@@ -13,6 +13,7 @@ mod answers;
 mod asking;
 #[cfg(test)]
 mod comparison_tests;
+mod keeping;
 mod laws;
 mod listing;
 mod state;
