@@ -14,6 +14,7 @@ mod answers;
 mod asking;
 #[cfg(test)]
 mod comparison_tests;
+mod keeping;
 mod laws;
 mod listing;
 mod order_laws;
