@@ -93,6 +93,7 @@ SoFar-start kind source sink = record {
   spent = λ no. cc;
   faults = refl;
 }
+
 -- a step of the reader to a line, from before the end
 pub record NextLine (reader reader' : Reading) (source source' : Supply) : Type 0 where
   pub line : IfSome (ahead reader source) (λ bytes. IsSomeAnd (ahead reader' source') (λ rest. HandsOut bytes reader'.line rest reader'.ended))

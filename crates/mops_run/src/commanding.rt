@@ -38,12 +38,7 @@ fn set(linker: &mut Linker, name: Word, value: i64) -> Reply
 }
 
 /// Moves the window, and gives the reply.
-fn set_window(
-    linker: &mut Linker,
-    lo: i64,
-    hi: i64,
-    tally: &mut Tally,
-) -> Result<Reply, NoMemory>
+fn set_window(linker: &mut Linker, lo: i64, hi: i64, tally: &mut Tally) -> Result<Reply, NoMemory>
     requires { IsNear (lo, hi) }
     ensures reply { IfOk result (λ reply.
         Obeys (Command.Window lo hi) linker.old.state reply linker.new.state) }

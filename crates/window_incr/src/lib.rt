@@ -18,6 +18,8 @@ mod keeping;
 mod laws;
 mod listing;
 mod order_laws;
+#[cfg(test)]
+mod order_tests;
 mod state;
 #[cfg(test)]
 mod tests;
