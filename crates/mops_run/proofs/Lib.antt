@@ -15,3 +15,4 @@ pub mod SettingsKept
 pub mod Existence
 pub mod Told
 pub mod Summaries
+pub mod Works

@@ -70,6 +70,11 @@ pub record SoFar (kind : Input) (source_old : Supply) (reader : Reading) (source
   pub spent : reader.ended ≡ true → (source.ended ≡ true) × IsAtEnd source.left
   pub faults : source.faults ≡ source_old.faults
 
+-- no line was seen yet
+pub tells_none : (left : Option (List ℕ)) → Tells left (prepend_known [] left) [] false
+tells_none None = tt
+tells_none (Some bytes) = (refl, λ _. record { raw = []; each = All-nil NoFeed; parts = refl; contents_are = refl })
+
 -- nothing was read or written yet
 pub SoFar-start : (kind : Input) (source : Supply) (sink : Receipt) → SoFar kind source fresh source sink sink 0 start false
 SoFar-start kind source sink = record {
@@ -80,7 +85,7 @@ SoFar-start kind source sink = record {
   few = omega arith;
   adds = record { bytes = Appends-nil sink.written; whole = inl refl; faults = refl };
   refused_is = refl;
-  tells = told source.left;
+  tells = tells_none source.left;
   passed = omega arith;
   taken = record { given = []; bytes = Consumes-nil source.left; sum = refl; counted = omega arith };
   within = lit< tt;
@@ -88,10 +93,6 @@ SoFar-start kind source sink = record {
   spent = λ no. cc;
   faults = refl;
 }
-  where
-    told : (left : Option (List ℕ)) → Tells left (prepend_known [] left) [] false
-    told None = tt
-    told (Some bytes) = (refl, λ _. record { raw = []; each = All-nil NoFeed; parts = refl; contents_are = refl })
 
 -- a step of the reader to a line, from before the end
 pub record NextLine (reader reader' : Reading) (source source' : Supply) : Type 0 where
@@ -123,7 +124,7 @@ front_more all bytes rest content seen false front begins is =
     }
 
 -- one more line of an input that is told; where it isn't, what was handed out stands for it
-tells_more : (input bytes rest : Option (List ℕ)) (seen : List (List ℕ)) (line : List ℕ) (was last : Bool) → was ≡ false → Tells input bytes seen was
+pub tells_more : (input bytes rest : Option (List ℕ)) (seen : List (List ℕ)) (line : List ℕ) (was last : Bool) → was ≡ false → Tells input bytes seen was
     → IfSome bytes (λ xs. IsSomeAnd rest (λ ys. HandsOut xs line ys last))
     → (content : List ℕ) × (said_by line ≡ said_by content) × Tells input rest (seen ++ content ∷ []) last
 tells_more None bytes rest seen line was last not_ended tells next = (line, refl, tt)

@@ -1,5 +1,8 @@
 -- The replies that tell what came of exposures are those of a delivery.
-use Rattle.std.proofs.Common.{◌≡◌, ◌++◌, List, [], ◌∷◌, map, refl, sym, ap, subst, ◌∙◌}
+use Rattle.std.proofs.Common.{◌≡◌, ◌++◌, Vec, Global, List, [], ◌∷◌, map, refl, sym, ap, subst, ◌∙◌}
+use Rattle.std.specs.Result.{IfOk}
+use Rattle.std.specs.declared.result.Result.{Result}
+use Rattle.std.specs.declared.result.Result.TheVariants.{Ok, Err}
 use Rattle.std.proofs.lemmas.List.{map-append}
 use Rattle.exposure_log.specs.Held.{ExposureData, LogData}
 use Rattle.exposure_log.specs.Outcomes.{HoldsAll, HoldsOne}
@@ -29,3 +32,8 @@ delivered old new xs outcomes replies h same told =
 
 pub one_more_told : (outcomes : List Outcome) (replies more : List Reply) (outcome : Outcome) (reply : Reply) → replies ≡ map reply_of outcomes → reply ≡ reply_of outcome → more ≡ replies ++ reply ∷ [] → more ≡ map reply_of (outcomes ++ outcome ∷ [])
 one_more_told outcomes replies more outcome reply so_far is m = m ∙ (rw (so_far, is) (sym (map-append reply_of outcomes (outcome ∷ []))))
+
+pub delivered_if : {E : Type 0} (old new : LinkerState) (xs : List ExposureData) (outcomes : List Outcome) (r : Result (Vec Reply Global) E) → HoldsAll old.log xs outcomes new.log → new.settings ≡ old.settings
+    → IfOk r (λ replies. replies.items ≡ map reply_of outcomes) → IfOk r (λ replies. DeliversAll old xs replies.items new)
+delivered_if old new xs outcomes (Ok replies) h same told = delivered old new xs outcomes replies.items h same told
+delivered_if old new xs outcomes (Err e) h same told = tt

@@ -11,6 +11,7 @@ pub mod Part
 pub mod Promise
 pub mod Forms
 pub mod Summing
+pub mod Work
 pub mod Runs
 pub mod Output
 pub mod Complaints

@@ -5,6 +5,7 @@ ghost use Rattle.mops_run.specs.Lines.{IsNearCommand};
 ghost use Rattle.sky_units.specs.Limits.{IsNear};
 
 use crate::lines::Command;
+use exposure_log::WindowError;
 use sky_units::{AskError, NoMemory, Tally, Word, Words};
 use std::alloc::AllocError;
 use track_report::Reply;
@@ -18,7 +19,7 @@ pub fn obey(linker: &mut Linker, command: Command, tally: &mut Tally) -> Result<
 {
     match command {
         Command::Set(name, value) => Ok(set(linker, name, value)),
-        Command::Window(lo, hi) => Ok(set_window(linker, lo, hi, tally)),
+        Command::Window(lo, hi) => set_window(linker, lo, hi, tally),
         Command::Tracklets(night) => Ok(Reply::Tracklets(night, linker.tracklets(night)?)),
         Command::Report => Ok(Reply::Report(linker.report(tally)?)),
         Command::Ask(ids) => ask(linker, ids),
@@ -37,14 +38,16 @@ fn set(linker: &mut Linker, name: Word, value: i64) -> Reply
 }
 
 /// Moves the window, and gives the reply.
-fn set_window(linker: &mut Linker, lo: i64, hi: i64, tally: &mut Tally) -> Reply
+fn set_window(linker: &mut Linker, lo: i64, hi: i64, tally: &mut Tally) -> Result<Reply, NoMemory>
     requires { IsNear (lo, hi) }
-    ensures reply { Obeys (Command.Window lo hi) linker.old.state result linker.new.state }
+    ensures reply { IfOk result (λ reply.
+        Obeys (Command.Window lo hi) linker.old.state reply linker.new.state) }
     ensures tally { tally.new ≡ tally.old }
 {
     match linker.set_window(lo, hi, tally) {
-        Ok(()) => Reply::Window(lo, hi),
-        Err(error) => Reply::WindowRefused(error),
+        Ok(()) => Ok(Reply::Window(lo, hi)),
+        Err(WindowError::NoMemory) => Err(AllocError),
+        Err(error) => Ok(Reply::WindowRefused(error)),
     }
 }
 

@@ -1,7 +1,8 @@
 //! Delivering the detections that wait: they are gathered into exposures, which are added in order.
-ghost use Rattle.std.specs.Prelude.{◌≡◌, ◌<◌, ◌^◌, [], IfOk, length, slice_get};
+ghost use Rattle.std.specs.Prelude.{◌≡◌, ◌<◌, ◌^◌, [], IfOk, length, map, slice_get};
 ghost use Rattle.std.specs.Option.{option_map_or};
 ghost use Rattle.mops_run.specs.Deliveries.{DeliversAll, Delivers, named_id as named_id_of, reply_of};
+ghost use Rattle.mops_run.specs.Work.{IsWorkToDeliver, IsWorkToHold};
 
 use exposure_log::{AddError, Exposure, Outcome, gather};
 use miti_text::Detection;
@@ -21,7 +22,7 @@ pub fn deliver(
     requires { length waiting.items < 2 ^ 32 }
     ensures replies { IfOk result (λ replies.
         Delivers linker.old.state waiting.items replies.items linker.new.state) }
-    ensures tally { tally.new ≡ tally.old }
+    ensures work { IsWorkToDeliver linker.old.state waiting.items tally.old tally.new }
 {
     let exposures = gather(alloc, waiting)?;
     add_all(alloc, linker, exposures, tally)
@@ -36,9 +37,17 @@ fn add_all(
 ) -> Result<Vec<Reply>, NoMemory>
     ensures replies { IfOk result (λ replies.
         DeliversAll linker.old.state exposures.items replies.items linker.new.state) }
-    ensures tally { tally.new ≡ tally.old }
+    ensures work { IsWorkToHold linker.old.state exposures.items tally.old tally.new }
 {
+    let _ = linker.nights();
     let outcomes = linker.hold_all(exposures, tally)?;
+    replies_to(alloc, outcomes)
+}
+
+/// The replies that tell what came of exposures.
+fn replies_to(alloc: Global, outcomes: Vec<Outcome>) -> Result<Vec<Reply>, NoMemory>
+    ensures { IfOk result (λ replies. replies.items ≡ map reply_of outcomes.items) }
+{
     let mut replies = Vec::with_capacity(alloc, outcomes.len())?;
     for outcome in outcomes {
         replies.push(reply_to(alloc, outcome)?)?;

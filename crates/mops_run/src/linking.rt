@@ -6,6 +6,7 @@ ghost use Rattle.mops_run.specs.Commands.{Obeys};
 ghost use Rattle.mops_run.specs.Inputs.{RepliesIn};
 ghost use Rattle.mops_run.specs.Linking.{IsLeastNight, IsNearNight, Links, LinksAndReports};
 ghost use Rattle.mops_run.specs.State.{state_of};
+ghost use Rattle.mops_run.specs.Work.{IsWorkToLink};
 
 use crate::commanding::obey;
 use crate::delivering::deliver;
@@ -50,7 +51,7 @@ pub fn link_and_report(
     requires few { length detections.items < 2 ^ 32 }
     ensures replies { IfOk result (λ replies.
         LinksAndReports linker.old.state detections.items replies.items linker.new.state) }
-    ensures tally { tally.new ≡ tally.old }
+    ensures work { IsWorkToLink linker.old.state detections.items tally.old tally.new }
 {
     let mut replies = link_all(alloc, linker, detections, tally)?;
     replies.push(obey(linker, Command::Report, tally)?)?;
@@ -68,7 +69,7 @@ pub fn link_all(
     requires few { length detections.items < 2 ^ 32 }
     ensures replies { IfOk result (λ replies.
         Links linker.old.state detections.items replies.items linker.new.state) }
-    ensures tally { tally.new ≡ tally.old }
+    ensures work { IsWorkToLink linker.old.state detections.items tally.old tally.new }
 {
     let Some(night) = least_night(linker.settings(), detections.as_slice()) else {
         return Ok(Vec::new(alloc));

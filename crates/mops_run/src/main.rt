@@ -24,6 +24,8 @@ mod laws;
 mod lines;
 mod linking;
 #[cfg(test)]
+mod many_tests;
+#[cfg(test)]
 mod night_tests;
 mod output;
 mod reading;

@@ -1,6 +1,7 @@
 //! Answering the lines of an input, one after another.
-ghost use Rattle.std.specs.Prelude.{◌≡◌, ◌^◌, ◌<◌, ◌++◌, ◌∷◌, [], false, IfOk, length};
+ghost use Rattle.std.specs.Prelude.{◌≡◌, ◌^◌, ◌<◌, ◌++◌, ◌∷◌, [], false, IfOk, IfSome, length};
 ghost use Rattle.std.specs.List.{list_any};
+ghost use Rattle.std.specs.Str.Lines.{lines};
 ghost use Rattle.track_report.specs.Refusals.{is_refusal};
 ghost use Rattle.mops_run.specs.Answering.{Says, Answered, FailsToAnswer, Finished, FailsToFinish};
 ghost use Rattle.mops_run.specs.Inputs.{EndsIn, RepliesIn};
@@ -8,6 +9,7 @@ ghost use Rattle.mops_run.specs.Lines.{IsNearLine, said_by};
 ghost use Rattle.mops_run.specs.Output.{text_of_all, FailsIn};
 ghost use Rattle.mops_run.specs.Promise.{Reads, done_status};
 ghost use Rattle.mops_run.specs.State.{state_of};
+ghost use Rattle.mops_run.specs.Work.{IsWorkAtEnd, IsWorkOfInput, IsWorkOfLine};
 
 use crate::delivering::deliver;
 use crate::inputs::Input;
@@ -35,7 +37,8 @@ pub fn read_all<I: Source, O: Sink>(
 ) -> Status
     ensures reads { Reads input result (I.supply source.old) (I.supply source.new)
         (O.receipt sink.old) (O.receipt sink.new) }
-    ensures tally { tally.new ≡ tally.old }
+    ensures work { IfSome (I.supply source.old).left (λ bytes.
+        IsWorkOfInput input (lines bytes) tally.old tally.new) }
 {
     let Ok(mut reader) = LineReader::new(alloc) else {
         return Status::NoMemory;
@@ -109,7 +112,8 @@ fn answer<O: Sink>(
     ensures fault { result ≡ Err Stop.WriteFault →
         FailsToAnswer input number (state_of linker.old.state waiting.old.items)
         (said_by text.now) (O.receipt sink.old) (O.receipt sink.new) }
-    ensures tally { tally.new ≡ tally.old }
+    ensures work { IsWorkOfLine input (state_of linker.old.state waiting.old.items)
+        (said_by text.now) tally.old tally.new }
 {
     let read = read_script_line(alloc, text);
     let left = left_of(read, waiting)?;
@@ -140,7 +144,8 @@ fn answer_said<O: Sink>(
     ensures fault { result ≡ Err Stop.WriteFault →
         FailsToAnswer input number (state_of linker.old.state waiting.old.items) said
         (O.receipt sink.old) (O.receipt sink.new) }
-    ensures tally { tally.new ≡ tally.old }
+    ensures work { IsWorkOfLine input (state_of linker.old.state waiting.old.items) said
+        tally.old tally.new }
 {
     let replies = reply(alloc, input, linker, waiting, number, said, tally)?;
     say(alloc, sink, replies.as_slice())
@@ -163,7 +168,8 @@ fn finish<O: Sink>(
     ensures fault { result ≡ Err Stop.WriteFault →
         FailsToFinish input (state_of linker.old.state waiting.items) (O.receipt sink.old)
         (O.receipt sink.new) }
-    ensures tally { tally.new ≡ tally.old }
+    ensures work { IsWorkAtEnd input (state_of linker.old.state waiting.items)
+        tally.old tally.new }
 {
     let replies = last_replies(alloc, input, linker, waiting, tally)?;
     say(alloc, sink, replies.as_slice())
@@ -184,7 +190,8 @@ fn reply(
     ensures replies { IfOk result (λ replies.
         RepliesIn input number (state_of linker.old.state waiting.old.items) said replies.items
         (state_of linker.new.state waiting.new.items)) }
-    ensures tally { tally.new ≡ tally.old }
+    ensures work { IsWorkOfLine input (state_of linker.old.state waiting.old.items) said
+        tally.old tally.new }
 {
     match input {
         Input::Script => script_reply(alloc, linker, waiting, number, said, tally),
@@ -203,7 +210,8 @@ fn last_replies(
     requires few { length waiting.items < 2 ^ 32 }
     ensures replies { IfOk result (λ replies.
         EndsIn input (state_of linker.old.state waiting.items) replies.items linker.new.state) }
-    ensures tally { tally.new ≡ tally.old }
+    ensures work { IsWorkAtEnd input (state_of linker.old.state waiting.items)
+        tally.old tally.new }
 {
     match input {
         Input::Script => deliver(alloc, linker, waiting, tally),

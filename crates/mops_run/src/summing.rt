@@ -4,7 +4,9 @@ ghost use Rattle.sky_units.specs.declared.statistics.Stats.{Stats as StatsData};
 ghost use Rattle.made_sky.specs.MadeSky.{made_detections};
 ghost use Rattle.mops_run.specs.Forms.{IsPlan, sky_of};
 ghost use Rattle.mops_run.specs.Runs.{Summarizes};
+ghost use Rattle.mops_run.specs.State.{start};
 ghost use Rattle.mops_run.specs.Summing.{IsSummary, summary_text};
+ghost use Rattle.mops_run.specs.Work.{IsWorkToLink};
 
 use crate::forms::SkyPlan;
 use crate::linking::link_all;
@@ -22,7 +24,7 @@ use window_incr::Linker;
 pub fn summarize<O: Sink>(alloc: Global, plan: SkyPlan, sink: &mut O, tally: &mut Tally) -> Status
     requires { IsPlan plan }
     ensures summary { Summarizes plan result (O.receipt sink.old) (O.receipt sink.new) }
-    ensures tally { tally.new ≡ tally.old }
+    ensures work { IsWorkToLink start.linker (made_detections (sky_of plan)) tally.old tally.new }
 {
     let Ok(text) = write_summary(alloc, plan, tally) else {
         return Status::NoMemory;
@@ -38,7 +40,7 @@ fn write_summary(alloc: Global, plan: SkyPlan, tally: &mut Tally) -> Result<Vec<
     requires { IsPlan plan }
     ensures text { IfOk result (λ text. (stats : StatsData) × IsSummary (sky_of plan) stats ×
         (text.items ≡ summary_text plan stats)) }
-    ensures tally { tally.new ≡ tally.old }
+    ensures work { IsWorkToLink start.linker (made_detections (sky_of plan)) tally.old tally.new }
 {
     let stats = stats_of(alloc, plan, tally)?;
     let reply = Reply::Summary(plan.number, plan.nights, plan.objects, stats);
@@ -49,7 +51,7 @@ fn write_summary(alloc: Global, plan: SkyPlan, tally: &mut Tally) -> Result<Vec<
 fn stats_of(alloc: Global, plan: SkyPlan, tally: &mut Tally) -> Result<Stats, NoMemory>
     requires { IsPlan plan }
     ensures summary { IfOk result (IsSummary (sky_of plan)) }
-    ensures tally { tally.new ≡ tally.old }
+    ensures work { IsWorkToLink start.linker (made_detections (sky_of plan)) tally.old tally.new }
 {
     let sky = Sky::new(alloc, plan.number, plan.nights, plan.objects)?;
     let detections = detections_of(alloc, &sky)?;

@@ -86,7 +86,7 @@ pub(crate) fn expect_watch(
 }
 
 /// Watches a script in pieces of so many bytes, and compares. All that is written is flushed.
-fn expect_in_pieces(
+pub(crate) fn expect_in_pieces(
     rt: &(impl Abort + AllocGlobal),
     name: &str,
     piece: usize,

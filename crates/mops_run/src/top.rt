@@ -5,6 +5,7 @@ ghost use Rattle.mops_run.specs.Forms.{HasPlan, form_of as form_of_words};
 ghost use Rattle.mops_run.specs.Part.{StopsReading};
 ghost use Rattle.mops_run.specs.Promise.{EndsByReading, EndsUnread, IsDone, IsSpent, NoneFailed, SinkFaults, SourceFaults, Takes, refused_by};
 ghost use Rattle.mops_run.specs.Runs.{IsReadable, ReadsInput, Runs, WritesPart, WritesTakenPart, WritesWhole};
+ghost use Rattle.mops_run.specs.Work.{IsWorkOf};
 
 use crate::forms::{Form, form_of};
 use crate::generating::generate;
@@ -48,8 +49,8 @@ pub fn run<I: Source, O: Sink>(
 ) -> Status
     // Other words are turned away, and nothing is touched.
     ensures usage { (result ≡ Status.Usage) ↔ (form_of_words words.now ≡ None) }
-    ensures untouched { result ≡ Status.Usage → (source.new ≡ source.old) × (sink.new ≡ sink.old) }
-    ensures tally { tally.new ≡ tally.old }
+    ensures untouched { result ≡ Status.Usage →
+        (source.new ≡ source.old) × (sink.new ≡ sink.old) × (tally.new ≡ tally.old) }
 
     // The headline promise, where the source tells its bytes: a run that is done has written the
     // replies that the definitions give, and every run has written a front of them. So has a run
@@ -80,6 +81,11 @@ pub fn run<I: Source, O: Sink>(
     ensures taken { result ≢ Status.Usage →
         Takes result (I.supply source.old) (I.supply source.new) }
 
+    // The tally rises by no more than the work of the exposures that are added, where the source
+    // tells its bytes, or a sky is made.
+    ensures work { IfSome (form_of_words words.now) (λ form.
+        IsWorkOf form (I.supply source.old).left tally.old tally.new) }
+
     // A run that makes a sky reads nothing, and refuses nothing.
     ensures unread { IfSome (form_of_words words.now) (λ form. (ReadsInput form → ⊥) →
         (source.new ≡ source.old) × EndsUnread result) }
@@ -109,7 +115,7 @@ fn run_form<I: Source, O: Sink>(
     ensures runs { Runs form result (I.supply source.old) (I.supply source.new)
         (O.receipt sink.old) (O.receipt sink.new) }
     ensures unread { (ReadsInput form → ⊥) → (source.new ≡ source.old) × EndsUnread result }
-    ensures tally { tally.new ≡ tally.old }
+    ensures work { IsWorkOf form (I.supply source.old).left tally.old tally.new }
 {
     match form {
         Form::Watch => read_all(alloc, Input::Script, source, sink, tally),

@@ -4,9 +4,11 @@ ghost use Rattle.mops_run.specs.Deliveries.{Delivers};
 ghost use Rattle.mops_run.specs.Lines.{IsNearLine};
 ghost use Rattle.mops_run.specs.Replies.{Replies};
 ghost use Rattle.mops_run.specs.State.{state_of};
+ghost use Rattle.mops_run.specs.Work.{IsWorkOfLine, IsWorkToDeliver};
 
 use crate::commanding::obey;
 use crate::delivering::deliver;
+use crate::inputs::Input;
 use crate::lines::Said;
 use miti_text::Detection;
 use sky_units::{NoMemory, Tally};
@@ -30,7 +32,8 @@ pub fn script_reply(
     ensures replies { IfOk result (λ replies.
         Replies number (state_of linker.old.state waiting.old.items) said replies.items
         (state_of linker.new.state waiting.new.items)) }
-    ensures tally { tally.new ≡ tally.old }
+    ensures work { IsWorkOfLine Input.Script (state_of linker.old.state waiting.old.items) said
+        tally.old tally.new }
 {
     match said {
         Said::Nothing => Ok(Vec::new(alloc)),
@@ -82,7 +85,7 @@ fn deliver_waiting(
     ensures replies { IfOk result (λ replies.
         Delivers linker.old.state waiting.old.items replies.items linker.new.state) }
     ensures none_waits { waiting.new.items ≡ [] }
-    ensures tally { tally.new ≡ tally.old }
+    ensures work { IsWorkToDeliver linker.old.state waiting.old.items tally.old tally.new }
 {
     let delivered = mem::replace(waiting, Vec::new(alloc));
     deliver(alloc, linker, delivered, tally)

@@ -5,3 +5,6 @@ pub mod Laws
 pub mod Asked
 pub mod Asking
 pub mod Order
+pub mod Results
+pub mod Keeping
+pub mod Work

@@ -1,16 +1,19 @@
--- The linker's state, and what a setting does to it.
+-- The linker's state, what it keeps beside it, and what a setting does to the state.
 use Rattle.std.specs.Prelude.{is_some, Result, Ok, Err, if◌then◌else◌, List, ℕ, ℤ}
 use Rattle.night_tree.specs.Nights.{NightData}
+use Rattle.set_grow.specs.Nights.{NumberedNightData}
 use Rattle.sky_units.specs.SettingsData.{SettingsData}
 pub use Rattle.kept_nights.specs.LinkerState.{LinkerState}
 use Rattle.sky_units.specs.SettingNames.{set_named}
 use Rattle.sky_units.specs.declared.setting_names.SetError.{SetError}
 use Rattle.sky_units.specs.declared.setting_names.SetError.TheVariants.{Late}
 
--- a linker: its state, and the nights that it keeps
+-- a linker: its state, the nights that it keeps, their tracklets with lasting numbers, and the sets of these numbers that it keeps
 pub record LinkerData : Type 0 where
   pub state : LinkerState
   pub nights : List NightData
+  pub numbered : List NumberedNightData
+  pub sets : List (List ℕ)
 
 -- the state under these settings, by which nights are counted too
 abbrev pub under : LinkerState → SettingsData → LinkerState

@@ -6,6 +6,7 @@ ghost use Rattle.std.specs.Option.{option_map};
 ghost use Rattle.exposure_log.specs.Held.{spots_of_night};
 ghost use Rattle.exposure_log.specs.Orderly.{IsOrderly};
 ghost use Rattle.kept_nights.specs.KeptNights.{nights_of};
+ghost use Rattle.kept_tracks.specs.KeptFor.{AreKeptFor};
 ghost use Rattle.sky_units.specs.Tracks.{numbers_of as set_numbers};
 ghost use Rattle.sky_units.specs.declared.ask_errors.AskError.TheVariants as errors;
 ghost use Rattle.window_incr.specs.Answers.{id_of_number};
@@ -16,6 +17,7 @@ ghost use Rattle.window_incr.specs.Soundness.{IsSoundState};
 
 use crate::listing::listed;
 use exposure_log::ExposureLog;
+use kept_tracks::KeptTracks;
 use night_tree::Night;
 use refusal_cert::refuse;
 use sky_units::{
@@ -45,12 +47,14 @@ pub(crate) fn asked(
     alloc: Global,
     log: &ExposureLog,
     nights: &[Night],
+    kept: &KeptTracks,
     settings: &Settings,
     ids: &[Word],
 ) -> Result<Asked, AskError>
     requires few { length ids.now < 2 ^ 32 }
     requires sound { IsSoundState (record { settings = settings.now; log = log.now }) }
     requires kept { nights.now ≡ nights_of (record { settings = settings.now; log = log.now }) }
+    requires sets { AreKeptFor settings.now nights.now kept.now }
     ensures { result ≢ Err errors.NoMemory →
         IsAsked (record { settings = settings.now; log = log.now }) ids.now result }
 {
@@ -62,7 +66,15 @@ pub(crate) fn asked(
         Found::Untracked(night) => Ok(Asked::NotTracklet(night)),
         Found::Tracked(found) if found.nights < 3 => Ok(Asked::FewNights(found.nights as u32)),
         Found::Tracked(found) => {
-            Ok(spread(alloc, log, nights, settings, ids, found.spots.as_slice())?)
+            Ok(spread(
+                alloc,
+                log,
+                nights,
+                kept,
+                settings,
+                ids,
+                found.spots.as_slice(),
+            )?)
         }
     }
 }
@@ -203,6 +215,7 @@ fn spread(
     alloc: Global,
     log: &ExposureLog,
     nights: &[Night],
+    kept: &KeptTracks,
     settings: &Settings,
     ids: &[Word],
     spots: &[Spot],
@@ -210,6 +223,7 @@ fn spread(
     requires few { length ids.now < 2 ^ 32 }
     requires sound { IsSoundState (record { settings = settings.now; log = log.now }) }
     requires kept { nights.now ≡ nights_of (record { settings = settings.now; log = log.now }) }
+    requires sets { AreKeptFor settings.now nights.now kept.now }
     requires set { IsTrackedSet (record { settings = settings.now; log = log.now }) ids.now
         spots.now }
     ensures { IfOk result (λ asked.
@@ -224,7 +238,7 @@ fn spread(
     if let Some(asked) = misfit(ra, dec) {
         return Ok(asked);
     }
-    track(alloc, log, nights, settings, spots)
+    track(alloc, log, nights, kept, settings, spots)
 }
 
 /// The answer of the certificates of both axes, where there is one.
@@ -278,16 +292,18 @@ fn track(
     alloc: Global,
     log: &ExposureLog,
     nights: &[Night],
+    kept: &KeptTracks,
     settings: &Settings,
     spots: &[Spot],
 ) -> Result<Asked, NoMemory>
     requires sound { IsSoundState (record { settings = settings.now; log = log.now }) }
     requires kept { nights.now ≡ nights_of (record { settings = settings.now; log = log.now }) }
+    requires sets { AreKeptFor settings.now nights.now kept.now }
     requires track { IsTrackOfSpots (record { settings = settings.now; log = log.now }) spots.now }
     ensures { IfOk result (λ asked. IsAskedTrack
         (record { settings = settings.now; log = log.now }) (labels spots.now) (Ok asked)) }
 {
-    let list = listed(alloc, log, nights, settings)?;
+    let list = listed(alloc, log, nights, kept)?;
     let mut numbers = Vec::with_capacity(alloc, spots.len())?;
     push_numbers(&mut numbers, spots)?;
     if let Some(number) = number_of_track(alloc, list.as_slice(), numbers.as_slice())? {

@@ -14,9 +14,12 @@ mod answers;
 mod asking;
 #[cfg(test)]
 mod comparison_tests;
+mod keeping;
 mod laws;
 mod listing;
 mod order_laws;
+#[cfg(test)]
+mod order_tests;
 mod state;
 #[cfg(test)]
 mod tests;

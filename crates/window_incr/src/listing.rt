@@ -5,29 +5,30 @@ ghost use Rattle.miti_text.specs.CanonicalOrder.{canonical_cmp};
 ghost use Rattle.exposure_log.specs.Held.{held_at};
 ghost use Rattle.sky_units.specs.TrackletData.{spots_of};
 ghost use Rattle.window_incr.specs.Answers.{IsReportList, set_cmp};
-ghost use Rattle.kept_nights.specs.KeptNights.{nights_of};
-ghost use Rattle.window_incr.specs.Soundness.{IsSoundState};
+ghost use Rattle.sky_units.specs.SettingsData.{SettingsData};
+ghost use Rattle.window_incr.specs.Keeping.{AreResults};
 
-use closed_tracks::maximal_tracks;
 use exposure_log::ExposureLog;
+use kept_tracks::KeptTracks;
 use night_tree::Night;
-use sky_units::{NoMemory, Settings, Spot, TrackSet, Tracklet};
+use sky_units::{NoMemory, Spot, TrackSet, Tracklet};
 use std::alloc::Global;
 use std::cmp::Ordering;
 
-/// The report list of the kept nights: their maximal tracks, in canonical order of their detections.
+/// The report list of what is kept: the maximal tracks, in canonical order of their detections. They
+/// are read, and not looked for.
 pub(crate) fn listed(
     alloc: Global,
     log: &ExposureLog,
     nights: &[Night],
-    settings: &Settings,
+    kept: &KeptTracks,
 ) -> Result<Vec<TrackSet>, NoMemory>
-    requires sound { IsSoundState (record { settings = settings.now; log = log.now }) }
-    requires kept { nights.now ≡ nights_of (record { settings = settings.now; log = log.now }) }
-    ensures { IfOk result (λ list.
-        IsReportList (record { settings = settings.now; log = log.now }) list.items) }
+    requires { (settings : SettingsData) × AreResults settings log.now nights.now kept.now }
+    ensures { IfOk result (λ list. (settings : SettingsData) →
+        AreResults settings log.now nights.now kept.now →
+        IsReportList (record { settings = settings; log = log.now }) list.items) }
 {
-    let mut list = maximal_tracks(alloc, nights, settings)?;
+    let mut list = kept.maximal(alloc, nights)?;
     list.sort_by(|one, other| compare_sets(log, one, other))?;
     Ok(list)
 }

@@ -3,24 +3,27 @@ ghost use Rattle.std.specs.Prelude.{◌≡◌, ◌≢◌, ◌≤◌, ◌<◌, �
 ghost use Rattle.std.specs.List.{sum_by};
 ghost use Rattle.sky_units.specs.Limits.{most_nights, IsNear};
 ghost use Rattle.sky_units.specs.SettingNames.{set_named};
-ghost use Rattle.exposure_log.specs.Held.{TakesIn, IsAnsweredAs, refusal, window_refusal, moved};
+ghost use Rattle.exposure_log.specs.Held.{TakesIn, refusal, window_refusal, moved};
 ghost use Rattle.exposure_log.specs.Outcomes.{HoldsAll};
 ghost use Rattle.exposure_log.specs.declared.errors.AddError.TheVariants.{NoMemory as no_memory};
+ghost use Rattle.exposure_log.specs.declared.errors.WindowError.TheVariants.{NoMemory as window_memory};
 ghost use Rattle.sky_units.specs.declared.ask_errors.AskError.TheVariants.{NoMemory as out_of_memory};
 ghost use Rattle.night_tree.specs.Nights.{tracklets_of_each};
 ghost use Rattle.window_incr.specs.Answers.{tracklet_ids, IsReport, AreStats};
 ghost use Rattle.window_incr.specs.Asked.{IsAsked};
-ghost use Rattle.kept_nights.specs.KeptNights.{nights_of};
 ghost use Rattle.window_incr.specs.LinkerState.{LinkerData, after_setting};
+ghost use Rattle.window_incr.specs.Results.{KeepsResults};
 ghost use Rattle.window_incr.specs.Soundness.{IsSoundLinker};
+ghost use Rattle.window_incr.specs.Work.{IsWorkOfAdding, IsWorkOfHolding, IsWorkTo};
 ghost use Rattle.miti_text.specs.ValidReports.{IsValidReport};
 
 use crate::answers::{groups_of, tracks_of};
 use crate::asking::asked;
+use crate::keeping::{forget_before, renew_all_or_remove, renew_or_remove};
 use crate::listing::listed;
-use closed_tracks::maximal_tracks;
 use exposure_log::{AddError, Exposure, ExposureLog, Outcome, WindowError, hold_all};
-use kept_nights::{forget_before, night_of_number, renew_all_or_remove, renew_or_remove};
+use kept_nights::night_of_number;
+use kept_tracks::KeptTracks;
 use night_tree::Night;
 use sky_units::{
     AskError, Asked, Groups, NoMemory, Report, SetError, Settings, Stats, Tally, Words,
@@ -29,7 +32,9 @@ use std::alloc::Global;
 use std::marker::Model;
 
 /// The settings and the held exposures of a window of nights, which are linked into tracklets and
-/// tracks. The tracklets of each night with held exposures are kept.
+/// tracks. The tracklets of each night with held exposures are kept, and so are the closed sets of
+/// tracklets of three or more nights: after each call, also one that answers an error, they are those
+/// of a run from scratch (the definition `KeepsResults`).
 ///
 /// A call that answers an error changes nothing.
 #[derive(Drop)]
@@ -38,37 +43,41 @@ pub struct Linker {
     settings: Settings,
     log: ExposureLog,
     nights: Vec<Night>,
+    kept: KeptTracks,
 }
 
 impl Model for Linker {
     ghost use Rattle.std.specs.Prelude.{◌≡◌, IfSome};
     ghost use Rattle.sky_units.specs.Limits.{IsNear};
+    ghost use Rattle.window_incr.specs.Keeping.{nights_under};
     ghost use Rattle.window_incr.specs.LinkerState.{LinkerData};
-    ghost use Rattle.kept_nights.specs.KeptNights.{nights_of};
+    ghost use Rattle.kept_tracks.specs.KeptFor.{AreKeptFor};
+    ghost use Rattle.tracklet_register.specs.Registers.{with_numbers};
 
     ghost Value = { LinkerData };
 
     ghost view = { λ l. record {
       state = record { settings = l.settings; log = l.log };
       nights = l.nights.items;
+      numbered = with_numbers l.kept.register.nights l.nights.items;
+      sets = l.kept.sets;
     } };
 
     ghost invariant = { λ l. (l.log.night_shift ≡ l.settings.night_shift) ×
         IfSome l.log.window IsNear ×
-        (l.nights.items ≡ nights_of (record { settings = l.settings; log = l.log })) };
+        (l.nights.items ≡ nights_under l.settings l.log) ×
+        AreKeptFor l.settings l.nights.items l.kept };
 }
 
 impl Linker {
     /// A linker under these settings, with no window and nothing held.
     pub fn new(alloc: Global, settings: Settings) -> Result<Linker, NoMemory>
-        ensures { IfOk result (λ l. l ≡
+        ensures empty { IfOk result (λ l. l.state ≡
             record {
-              state = record {
-                settings = settings;
-                log = record { night_shift = settings.night_shift; window = None; exposures = [] };
-              };
-              nights = [];
+              settings = settings;
+              log = record { night_shift = settings.night_shift; window = None; exposures = [] };
             }) }
+        ensures kept { IfOk result (λ l. KeepsResults l) }
     {
         let log = ExposureLog::new(alloc, settings.night_shift)?;
         Ok(Linker {
@@ -76,6 +85,7 @@ impl Linker {
             settings,
             log,
             nights: Vec::new(alloc),
+            kept: KeptTracks::new(alloc),
         })
     }
 
@@ -92,7 +102,7 @@ impl Linker {
     /// detections (the definition `nights_of`).
     pub fn nights(&self) -> &[Night]
         ensures value { result.now ≡ self.now.nights }
-        ensures kept { self.now.nights ≡ nights_of self.now.state }
+        ensures kept { KeepsResults self.now }
     {
         self.nights.as_slice()
     }
@@ -105,7 +115,7 @@ impl Linker {
         ensures cause { IfErr result (λ error. after_setting name.now value self.old.state ≡
             Err error) }
         ensures err { OnErr result (self.new ≡ self.old) }
-        ensures kept { self.new.nights ≡ nights_of self.new.state }
+        ensures kept { KeepsResults self.new }
     {
         let settings = changed(&self.settings, name, value)?;
         if let Some(_window) = self.log.window() {
@@ -113,12 +123,15 @@ impl Linker {
         }
         self.log.set_shift(settings.night_shift);
         self.settings = settings;
+        // Before a window is set nothing is held, and so nothing is kept.
+        self.kept = KeptTracks::new(self.alloc);
         Ok(())
     }
 
     /// Holds an exposure from now on, and gives the number of its detections. The causes of a
-    /// refusal are those of the log. The night of the exposure is built anew, and no other. No fit
-    /// test is made.
+    /// refusal are those of the log. The night of the exposure is built anew, and no other; the
+    /// tracklets that came are grown, and no others. The tally stays where none came, and otherwise
+    /// rises by no more than the work for them (the definition `IsWork`).
     pub fn add(&mut self, exposure: &Exposure, tally: &mut Tally) -> Result<u32, AddError>
         ensures ok { IfOk result (λ count. (refusal self.old.state.log exposure.now ≡ None) ×
             (count ≡ length exposure.now.detections) ×
@@ -127,8 +140,10 @@ impl Linker {
         ensures cause { IfErr result (λ error. error ≢ no_memory →
             refusal self.old.state.log exposure.now ≡ Some error) }
         ensures err { OnErr result (self.new ≡ self.old) }
-        ensures kept { self.new.nights ≡ nights_of self.new.state }
-        ensures tally { tally.new ≡ tally.old }
+        ensures kept { KeepsResults self.new }
+        ensures refused { refusal self.old.state.log exposure.now ≢ None → tally.new ≡ tally.old }
+        ensures work { OnOk result (IsWorkTo self.old self.new.state.log tally.old tally.new) }
+        ensures wanting { IsWorkOfAdding self.old exposure.now tally.old tally.new }
     {
         let _ = self.log.window();
         let count = self.log.add(exposure)?;
@@ -137,20 +152,23 @@ impl Linker {
         let epoch = exposure.epoch();
         let site = exposure.site();
         renew_or_remove(
+            &mut self.kept,
             &mut self.nights,
             &mut self.log,
             alloc,
             &settings,
             epoch,
             site,
+            tally,
         )?;
         Ok(count)
     }
 
     /// Holds exposures one after another, themselves and no copies, and says what came of each (the
     /// definition `HoldsAll`). Their nights are built anew when all are held, and no other: one
-    /// build for all exposures of a night that follow one another. Where memory is wanting, nothing
-    /// changes. No fit test is made.
+    /// build for all exposures of a night; the tracklets that came are grown, and no others. Where
+    /// memory is wanting, nothing changes. The tally stays where no tracklet came, and otherwise
+    /// rises by no more than the work for those that came (the definition `IsWork`).
     pub fn hold_all(
         &mut self,
         exposures: Vec<Exposure>,
@@ -160,58 +178,59 @@ impl Linker {
             HoldsAll self.old.state.log exposures.items outcomes.items self.new.state.log ×
             (self.new.state.settings ≡ self.old.state.settings)) }
         ensures err { OnErr result (self.new ≡ self.old) }
-        ensures kept { self.new.nights ≡ nights_of self.new.state }
-        ensures tally { tally.new ≡ tally.old }
+        ensures kept { KeepsResults self.new }
+        ensures work { OnOk result (IsWorkTo self.old self.new.state.log tally.old tally.new) }
+        ensures wanting { IsWorkOfHolding self.old exposures.items tally.old tally.new }
     {
         let _ = self.log.window();
         let alloc = self.alloc;
         let settings = self.settings;
         let outcomes = hold_all(alloc, &mut self.log, exposures)?;
         let given = renew_all_or_remove(
+            &mut self.kept,
             &mut self.nights,
             &mut self.log,
             alloc,
             &settings,
             outcomes,
+            tally,
         )?;
         Ok(given)
     }
 
-    /// Sets the window to these nights, and forgets the nights before it. The causes of a refusal
-    /// are those of the log; `NoMemory` never comes. No fit test is made.
+    /// Sets the window to these nights, and forgets the nights before it with all that is kept of
+    /// them. The causes of a refusal are those of the log. No fit test is made.
     pub fn set_window(&mut self, lo: i64, hi: i64, tally: &mut Tally) -> Result<(), WindowError>
         requires { IsNear (lo, hi) }
-        ensures answer { IsAnsweredAs (window_refusal self.old.state.log.window lo hi) result }
+        ensures none { OnOk result (window_refusal self.old.state.log.window lo hi ≡ None) }
+        ensures cause { IfErr result (λ error. error ≢ window_memory →
+            window_refusal self.old.state.log.window lo hi ≡ Some error) }
         ensures ok { OnOk result (self.new.state ≡
             record self.old.state { log = moved self.old.state.log lo hi }) }
         ensures err { OnErr result (self.new ≡ self.old) }
-        ensures kept { self.new.nights ≡ nights_of self.new.state }
+        ensures kept { KeepsResults self.new }
         ensures tally { tally.new ≡ tally.old }
     {
         let _ = self.log.window();
         self.log.check_window(lo, hi)?;
+        let alloc = self.alloc;
+        forget_before(&mut self.kept, &mut self.nights, alloc, lo)?;
         self.log.move_window(lo, hi);
-        forget_before(&mut self.nights, lo);
         Ok(())
     }
 
     /// The window, and the maximal tracks of the held detections in canonical order (the definition
     /// `IsReport`), each with the reported quadratic on each axis. The report is valid: each track
     /// has three or more nights, and no more than a window, with two or more ids for each, and its
-    /// quadratics are counted from a position and an epoch. The fit tests that are made aren't
-    /// counted.
+    /// quadratics are counted from a position and an epoch. The tracks are read from what is kept:
+    /// no fit test is made.
     pub fn report(&self, tally: &mut Tally) -> Result<Report, NoMemory>
         ensures report { IfOk result (λ report. IsReport self.now.state report) }
         ensures valid { IfOk result (λ report. IsValidReport report) }
         ensures tally { tally.new ≡ tally.old }
     {
         let window = self.log.window();
-        let list = listed(
-            self.alloc,
-            &self.log,
-            self.nights.as_slice(),
-            &self.settings,
-        )?;
+        let list = listed(self.alloc, &self.log, self.nights.as_slice(), &self.kept)?;
         let tracks = tracks_of(self.alloc, &self.log, &self.settings, list.as_slice())?;
         Ok(Report { window, tracks })
     }
@@ -227,6 +246,7 @@ impl Linker {
             self.alloc,
             &self.log,
             self.nights.as_slice(),
+            &self.kept,
             &self.settings,
             ids.items(),
         )
@@ -250,7 +270,7 @@ impl Linker {
         ensures { IfOk result (λ stats. AreStats self.now.state stats) }
     {
         let _ = self.log.window();
-        let tracks = maximal_tracks(self.alloc, self.nights.as_slice(), &self.settings)?;
+        let tracks = self.kept.maximal(self.alloc, self.nights.as_slice())?;
         Ok(Stats {
             exposures: self.log.exposures(),
             detections: self.log.detections(),

@@ -1,19 +1,12 @@
-use Rattle.std.proofs.Common.{◌≡◌, sym, ◌∙◌, rules}
-use Rattle.std.proofs.lemmas.Iterator.Adapters.{YieldsList-from_vec}
-use Rattle.std.proofs.lemmas.Iterator.Consumers.{YieldsList-end}
-use Rattle.std.proofs.lemmas.List.{map-id}
-use Rattle.mops_run.proofs.Told.{delivered, one_more_told}
+use Rattle.std.proofs.Common.{refl}
+use Rattle.mops_run.proofs.Told.{delivered_if}
+use Rattle.mops_run.proofs.Works.{work_to_hold}
 use Rattle.mops_run.proofs.delivering.add_all.Goals as goal
-
-pub loop-outcome-preserved : goal.loop-outcome-preserved
-loop-outcome-preserved c =
-    one_more_told c.loop-outcome.yielded c.loop-outcome.replies.items c.push.new.self.items c.in-Some.outcome c.in_ok-reply_to.field-0 c.loop-outcome.invariant c.in_ok-reply_to.ensures c.in_ok-push.ensures.items
 
 pub returns-clause-replies : goal.returns-clause-replies
 returns-clause-replies c =
-    let end = YieldsList-end (YieldsList-from_vec {s = c.into_iter-outcome-iterator.result} c.in_ok-outcomes.outcomes.items (search rules) (search rules)) c.loop-outcome.yielded c.loop-outcome.outcome-iterator
-    c.loop-outcome.yielded_by c.next.result c.next.new.self c.in-None.is c.next.ensures.steps in
-    let all : c.loop-outcome.yielded ≡ c.in_ok-outcomes.outcomes.items = sym (map-id c.loop-outcome.yielded) ∙ end.0 in
-    let told = rw all at c.loop-outcome.invariant in
     let held = c.in_ok-outcomes.ensures.ok in
-    delivered c.args.linker.now.state c.hold_all.new.self.state c.args.exposures.items c.in_ok-outcomes.outcomes.items c.loop-outcome.replies.items held.0 held.1 told
+    delivered_if c.args.linker.now.state c.hold_all.new.self.state c.args.exposures.items c.in_ok-outcomes.outcomes.items c.replies_to.result held.0 held.1 c.replies_to.ensures
+
+pub returns-clause-work : goal.returns-clause-work
+returns-clause-work c = work_to_hold c.args.linker.now c.args.exposures.items c.args.tally.now c.hold_all.new.tally c.nights.ensures.kept c.hold_all.ensures.wanting

@@ -29,3 +29,8 @@ pub returns-in-Some-clause-fault : goal.returns-in-Some-clause-fault
 returns-in-Some-clause-fault g c =
     let left = rw c.in-Some.is at (c.in_ok-left.ensures (script_line_of c.args.text.now) c.read_script_line-read.ensures.answer) in
     rw (left.0, left.1) at c.answer_said.ensures.fault
+
+pub returns-in-Some-clause-work : goal.returns-in-Some-clause-work
+returns-in-Some-clause-work g c =
+    let left = rw c.in-Some.is at (c.in_ok-left.ensures (script_line_of c.args.text.now) c.read_script_line-read.ensures.answer) in
+    rw (left.0, left.1) at c.answer_said.ensures.work

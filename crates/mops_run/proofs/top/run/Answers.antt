@@ -42,3 +42,6 @@ returns-clause-unread g c = for_form _ _ _ (sym c.form_of.ensures.form ∙ c.in-
 pub returns-clause-completes : goal.returns-clause-completes
 returns-clause-completes g c = for_form _ _ _ (sym c.form_of.ensures.form ∙ c.in-Some.is)
     (completed _ _ _ _ _ _ c.run_form.ensures.runs (λ no. (c.run_form.ensures.unread no).1))
+
+pub returns-clause-work : goal.returns-clause-work
+returns-clause-work g c = for_form _ _ _ (sym c.form_of.ensures.form ∙ c.in-Some.is) c.run_form.ensures.work

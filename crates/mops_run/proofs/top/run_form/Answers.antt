@@ -31,3 +31,15 @@ returns-in-Summary-clause-runs g c = rw c.in-Summary.is (Runs-summary _ _ _ _ _ 
 
 pub returns-in-Summary-clause-unread : goal.returns-in-Summary-clause-unread
 returns-in-Summary-clause-unread g c = λ _. (refl, c.summarize.ensures.summary.ends)
+
+pub returns-in-Watch-clause-work : goal.returns-in-Watch-clause-work
+returns-in-Watch-clause-work g c = rw c.in-Watch.is c.read_all.ensures.work
+
+pub returns-in-Link-clause-work : goal.returns-in-Link-clause-work
+returns-in-Link-clause-work g c = rw c.in-Link.is c.read_all-in-Link.ensures.work
+
+pub returns-in-Generate-clause-work : goal.returns-in-Generate-clause-work
+returns-in-Generate-clause-work g c = rw c.in-Generate.is refl
+
+pub returns-in-Summary-clause-work : goal.returns-in-Summary-clause-work
+returns-in-Summary-clause-work g c = rw c.in-Summary.is c.summarize.ensures.work

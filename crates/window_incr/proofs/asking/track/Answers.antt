@@ -8,6 +8,9 @@ use Rattle.window_incr.specs.LinkerState.{LinkerState}
 use Rattle.window_incr.proofs.AskedTracks.{covered}
 use Rattle.window_incr.proofs.asking.track.Goals as goal
 
+pub listed-requires : goal.listed-requires
+listed-requires c = (c.args.settings.now, record { sound = c.requires.sound; are = c.requires.kept; sets = c.requires.sets })
+
 pub unreachable-requires : goal.unreachable-requires
 unreachable-requires c =
     let s : LinkerState = record { settings = c.args.settings.now; log = c.args.log.now } in
@@ -16,4 +19,4 @@ unreachable-requires c =
     let none : c.in_ok-number.field-0 ≡ None = search rules in
     let same = sym (c.in_ok-number.ensures ∙ ap₂ number_of_track c.as_slice.ensures.value (c.as_slice-2.ensures.value ∙ numbers)) ∙ none in
     let around = sym (c.in_ok-number-2.ensures ∙ ap₂ number_around c.as_slice-3.ensures.value (c.as_slice-4.ensures.value ∙ numbers)) ∙ c.in-None.is in
-    covered s.settings (tracklets_of_each (nights_of s)) c.in_ok-list.list.items c.requires.track.set (nights_follow s c.requires.sound) c.in_ok-list.ensures.listed c.requires.track.track same around
+    covered s.settings (tracklets_of_each (nights_of s)) c.in_ok-list.list.items c.requires.track.set (nights_follow s c.requires.sound) (c.in_ok-list.ensures s.settings (record { sound = c.requires.sound; are = c.requires.kept; sets = c.requires.sets })).listed c.requires.track.track same around
