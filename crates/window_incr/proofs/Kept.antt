@@ -23,7 +23,7 @@ use Rattle.night_tree.specs.Nights.{NightData, tracklets_of_each}
 use Rattle.set_grow.proofs.Members.{in_front, in_rest}
 use Rattle.set_grow.specs.Nights.{NumberedNightData, numbered_by}
 use Rattle.sky_units.specs.SettingsData.{SettingsData}
-use Rattle.sky_units.specs.TrackletData.{NightTracklets, TrackletData}
+use Rattle.sky_units.specs.TrackletData.{NightTracklets}
 use Rattle.sky_units.specs.Tracks.{AreNights}
 use Rattle.sky_units.specs.declared.tallies.Tally.{Tally}
 use Rattle.tracklet_register.proofs.Numbered.{tracklets_are}
@@ -33,7 +33,7 @@ use Rattle.tracklet_register.specs.declared.nights.NightNumbers.{NightNumbers}
 use Rattle.window_incr.specs.Keeping.{AreResults, HadNights, WereNights, WereNightsBut, nights_under}
 use Rattle.window_incr.specs.LinkerState.{LinkerData}
 use Rattle.window_incr.specs.Results.{KeepsResults, plain_night}
-use Rattle.window_incr.specs.Work.{IsWork, IsWorkFor, NothingCame}
+use Rattle.window_incr.specs.Work.{IsWork, NothingCame}
 
 all_of : {X : Type 0} → (P : X → Type 0) (xs : List X) → ((x : X) → Contains xs x → P x) → All P xs
 all_of P xs each = λ i d il. each (get_or xs i d) (Contains-get_or xs i d il)

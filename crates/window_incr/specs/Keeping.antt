@@ -6,7 +6,6 @@ use Rattle.exposure_log.specs.Orderly.{IsOrderly}
 use Rattle.exposure_log.specs.Outcomes.{CameBy}
 use Rattle.exposure_log.specs.declared.outcomes.Outcome.{Outcome}
 use Rattle.kept_nights.specs.KeptNights.{night_data, nights_of, with_night}
-use Rattle.kept_nights.specs.LinkerState.{LinkerState}
 use Rattle.kept_nights.specs.Renewed.{HaveDifferentNumbers, IsNightOf, with_nights}
 use Rattle.kept_nights.specs.Soundness.{IsSoundState}
 use Rattle.kept_tracks.specs.KeptFor.{AreKeptFor, KeptData}

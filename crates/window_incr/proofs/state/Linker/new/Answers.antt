@@ -1,4 +1,4 @@
-use Rattle.std.proofs.Common.{◌≡◌, IfSome, None, List, [], refl, sym, ap, subst, ◌∙◌, rules, to_z, of_z, w64}
+use Rattle.std.proofs.Common.{◌≡◌, IfSome, List, refl, sym, ap, subst, ◌∙◌, rules, to_z, of_z, w64}
 use mir.Facts.{to_z-of_z}
 use mir.Val.{SFits}
 use Rattle.exposure_log.specs.Held.{LogData}
