@@ -1,36 +1,39 @@
 -- What is kept of a log, and the nights that it follows by.
-use Rattle.std.proofs.Common.{◌≡◌, ◌⊎◌, ℤ, ℕ, List, [], ◌∷◌, map, get_or, inl, inr, refl, sym, ap, ap₂, subst, ◌∙◌, arith}
+use Rattle.std.proofs.Common.{◌≡◌, ◌⊎◌, ℤ, ℕ, List, [], ◌∷◌, map, None, get_or, inl, inr, refl, sym, ap, ap₂, subst, ◌∙◌, arith}
 use Rattle.std.specs.List.{All, Contains}
 use Rattle.std.proofs.lemmas.List.Elements.{All-cons, All-contains, All-nil, Contains-get_or}
-use Rattle.exposure_log.specs.Held.{LogData}
+use Rattle.sky_math.specs.Night.{night_at}
+use Rattle.exposure_log.proofs.Keeping.{moving_keeps_order}
+use Rattle.exposure_log.specs.Held.{ExposureData, LogData, TakesIn, moved, refusal, window_refusal}
 use Rattle.exposure_log.specs.Orderly.{IsOrderly}
 use Rattle.exposure_log.specs.declared.outcomes.Outcome.{Outcome}
-use Rattle.kept_nights.specs.KeptNights.{RiseByNumber, night_data, nights_of}
+use Rattle.kept_nights.specs.KeptNights.{RiseByNumber, night_data, nights_of, with_night}
 use Rattle.kept_nights.specs.LinkerState.{LinkerState}
 use Rattle.kept_nights.specs.Renewed.{AreRenewed, IsNightOf, with_nights}
 use Rattle.kept_nights.proofs.DifferentTracklets.{HaveEachOnce, each_once, labels_of_night, once_of_night}
 use Rattle.kept_nights.proofs.HeldNights.{in_order_follow}
-use Rattle.kept_nights.proofs.KeptNights.{member_is, member_of, numbers_rise}
+use Rattle.kept_nights.proofs.KeptNights.{kept_nights, member_is, member_of, moved_nights, numbers_rise}
 use Rattle.kept_nights.proofs.Renewal.{nights_follow}
+use Rattle.kept_nights.proofs.WithNight.{with_members}
 use Rattle.kept_tracks.specs.Costs.{AreFewTests, BringNothing}
-use Rattle.kept_tracks.specs.KeptFor.{AreKeptFor, KeptData, StandAlike}
+use Rattle.kept_tracks.specs.KeptFor.{AreKeptFor, KeptData, StandAlike, since}
 use Rattle.kept_tracks.specs.Stages.{tracklets_of_night}
 use Rattle.kept_tracks.proofs.NightChanges.{found_or_none}
 use Rattle.night_tree.specs.Nights.{NightData, tracklets_of_each}
 use Rattle.set_grow.proofs.Members.{in_front, in_rest}
 use Rattle.set_grow.specs.Nights.{NumberedNightData, numbered_by}
 use Rattle.sky_units.specs.SettingsData.{SettingsData}
-use Rattle.sky_units.specs.TrackletData.{NightTracklets, TrackletData}
+use Rattle.sky_units.specs.TrackletData.{NightTracklets}
 use Rattle.sky_units.specs.Tracks.{AreNights}
 use Rattle.sky_units.specs.declared.tallies.Tally.{Tally}
 use Rattle.tracklet_register.proofs.Numbered.{tracklets_are}
 use Rattle.tracklet_register.specs.Registers.{HasNumbersOf, numbers_of, with_numbers}
 use Rattle.tracklet_register.specs.Replacing.{AreDifferent, HaveDifferentLabels}
 use Rattle.tracklet_register.specs.declared.nights.NightNumbers.{NightNumbers}
-use Rattle.window_incr.specs.Keeping.{HadNights, WereNights, WereNightsBut, nights_under}
+use Rattle.window_incr.specs.Keeping.{AreResults, HadNights, WereNights, WereNightsBut, nights_under}
 use Rattle.window_incr.specs.LinkerState.{LinkerData}
 use Rattle.window_incr.specs.Results.{KeepsResults, plain_night}
-use Rattle.window_incr.specs.Work.{IsWork, IsWorkFor, NothingCame}
+use Rattle.window_incr.specs.Work.{IsWork, NothingCame}
 
 all_of : {X : Type 0} → (P : X → Type 0) (xs : List X) → ((x : X) → Contains xs x → P x) → All P xs
 all_of P xs each = λ i d il. each (get_or xs i d) (Contains-get_or xs i d il)
@@ -142,12 +145,13 @@ no_work settings nights numbered new before after e = record { none = λ none. e
 pub were_one : (settings : SettingsData) (log : LogData) (nights : List NightData) (number : ℤ) (night : NightData) → WereNightsBut settings log nights number → night ≡ night_data (record { settings = settings; log = log }) number → WereNights settings log nights (night ∷ [])
 were_one settings log nights number night w e =
     let s : LinkerState = record { settings = settings; log = log } in
+    let is = member_is s (night_data s number) (subst (λ (list : List NightData). Contains list (night_data s number)) w.renewed ((with_members (night_data s number) nights (night_data s number)).1 (inl refl))) in
     subst (λ (one : NightData). WereNights settings log nights (one ∷ [])) (sym e) (record {
       before = w.before;
       was_orderly = w.was_orderly;
       orderly = w.orderly;
       are = w.are;
-      each = All-cons (IsNightOf s) (night_data s number) [] (w.held, refl) (All-nil (IsNightOf s));
+      each = All-cons (IsNightOf s) (night_data s number) [] is (All-nil (IsNightOf s));
       once = λ i j d ij jl. absurd (omega (arith, ij, jl));
       renewed = w.renewed;
     })
@@ -163,3 +167,39 @@ were_all settings log nights changed outcomes o had renewed = record {
   once = renewed.once;
   renewed = nights_follow settings log outcomes changed nights (with_nights changed nights) o renewed refl had.before had.was_orderly had.came had.are;
 }
+
+-- the night of an exposure that was taken in
+pub were_added : (settings : SettingsData) (log new : LogData) (x : ExposureData) (nights : List NightData) → IsOrderly log → refusal log x ≡ None → TakesIn log new x → IsOrderly new → log.night_shift ≡ settings.night_shift → nights ≡ nights_under settings log
+    → WereNightsBut settings new nights (night_at settings.night_shift x.epoch)
+were_added settings log new x nights o none a o' shift are =
+    let now : LinkerState = record { settings = settings; log = new } in
+    record {
+      before = log;
+      was_orderly = o;
+      orderly = o';
+      are = are;
+      renewed = kept_nights (record { settings = settings; log = log }) new x nights (with_night (night_data now (night_at settings.night_shift x.epoch)) nights) o none a o' shift are refl;
+    }
+
+-- the nights that are left when the window is moved
+pub moved_under : (settings : SettingsData) (log : LogData) (lo hi : ℤ) (nights : List NightData) → IsOrderly log → window_refusal log.window lo hi ≡ None → nights ≡ nights_under settings log → since lo nights ≡ nights_under settings (moved log lo hi)
+moved_under settings log lo hi nights o passed are = ap (since lo) are ∙ moved_nights (record { settings = settings; log = log }) lo hi o (moving_keeps_order log lo hi o passed)
+
+-- what is lent of what is kept
+pub results_of : (settings : SettingsData) (log : LogData) (nights lent : List NightData) (kept : KeptData) → log.night_shift ≡ settings.night_shift → IsOrderly log → nights ≡ nights_under settings log → AreKeptFor settings nights kept → lent ≡ nights → AreResults settings log lent kept
+results_of settings log nights lent kept shift o are sets e = record {
+  sound = record { shift = shift; orderly = o };
+  are = e ∙ are;
+  sets = subst (λ (list : List NightData). AreKeptFor settings list kept) (sym e) sets;
+}
+
+-- without a window there are no nights
+pub none_under : (settings : SettingsData) (log : LogData) → log.window ≡ None → nights_under settings log ≡ []
+none_under settings log none = rw none refl
+
+-- where there was no window, and there is none, there are no nights, and nothing is kept
+pub nothing_under : (settings other : SettingsData) (log new : LogData) (nights : List NightData) (kept : KeptData) → nights ≡ nights_under settings log → log.window ≡ None → new.window ≡ None → ((any : SettingsData) → AreKeptFor any [] kept)
+    → (nights ≡ nights_under other new) × AreKeptFor other nights kept
+nothing_under settings other log new nights kept are none still nothing =
+    let empty : nights ≡ [] = are ∙ none_under settings log none in
+    (empty ∙ sym (none_under other new still), subst (λ (list : List NightData). AreKeptFor other list kept) (sym empty) (nothing other))

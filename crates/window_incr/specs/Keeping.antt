@@ -1,12 +1,11 @@
 -- Kept results of a log, and nights that are built anew when it has changed.
-use Rattle.std.specs.Prelude.{◌≡◌, ℤ, true, List}
+use Rattle.std.specs.Prelude.{◌≡◌, ℤ, List}
 use Rattle.std.specs.List.{All}
 use Rattle.exposure_log.specs.Held.{LogData}
 use Rattle.exposure_log.specs.Orderly.{IsOrderly}
 use Rattle.exposure_log.specs.Outcomes.{CameBy}
 use Rattle.exposure_log.specs.declared.outcomes.Outcome.{Outcome}
-use Rattle.kept_nights.specs.KeptNights.{is_held_night, night_data, nights_of, with_night}
-use Rattle.kept_nights.specs.LinkerState.{LinkerState}
+use Rattle.kept_nights.specs.KeptNights.{night_data, nights_of, with_night}
 use Rattle.kept_nights.specs.Renewed.{HaveDifferentNumbers, IsNightOf, with_nights}
 use Rattle.kept_nights.specs.Soundness.{IsSoundState}
 use Rattle.kept_tracks.specs.KeptFor.{AreKeptFor, KeptData}
@@ -39,7 +38,6 @@ pub record WereNightsBut (settings : SettingsData) (log : LogData) (nights : Lis
   pub was_orderly : IsOrderly before
   pub orderly : IsOrderly log
   pub are : nights ≡ nights_under settings before
-  pub held : is_held_night log number ≡ true
   pub renewed : with_night (night_data (record { settings = settings; log = log }) number) nights ≡ nights_under settings log
 
 -- nights of an earlier log, which has come to this one by some outcomes

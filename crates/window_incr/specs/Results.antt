@@ -1,5 +1,5 @@
 -- The results that a linker keeps: they are those of a run from scratch.
-use Rattle.std.specs.Prelude.{◌≡◌, List, map}
+use Rattle.std.specs.Prelude.{◌≡◌, map}
 use Rattle.kept_nights.specs.KeptNights.{nights_of}
 use Rattle.kept_sets.specs.Kept.{AreKept}
 use Rattle.night_tree.specs.Nights.{NightData}

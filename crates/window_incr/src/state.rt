@@ -147,6 +147,7 @@ impl Linker {
     {
         let _ = self.log.window();
         let count = self.log.add(exposure)?;
+        let _ = self.log.window();
         let alloc = self.alloc;
         let settings = self.settings;
         let epoch = exposure.epoch();

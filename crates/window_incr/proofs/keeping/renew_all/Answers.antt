@@ -1,7 +1,5 @@
-use Rattle.std.proofs.Common.{sym, subst, ◌∙◌}
-use Rattle.std.specs.List.{All}
+use Rattle.std.proofs.Common.{◌∙◌}
 use Rattle.std.proofs.lemmas.Result.{on_ok_weaker}
-use Rattle.night_tree.specs.Nights.{NightData}
 use Rattle.window_incr.specs.Keeping.{WereNights}
 use Rattle.window_incr.proofs.Kept.{follow_now, following, once_each, rising, were_all, work_of}
 use Rattle.window_incr.proofs.keeping.renew_all.Goals as goal

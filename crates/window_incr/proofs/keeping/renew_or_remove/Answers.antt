@@ -1,9 +1,8 @@
-use Rattle.std.proofs.Common.{◌≡◌, sym, ap, subst, ◌∙◌, rules, w64}
+use Rattle.std.proofs.Common.{◌≡◌, ap, rules, w64}
 use mir.Facts.{to_z-of_z}
 use mir.Val.{SFits, to_z, of_z}
 use Rattle.sky_math.specs.Night.{night_at}
 use Rattle.sky_units.specs.SettingsData.{SettingsData}
-use Rattle.window_incr.specs.Keeping.{WereNightsBut}
 use Rattle.window_incr.proofs.keeping.renew_or_remove.Goals as goal
 
 pub renew_night-requires-clause-but : goal.renew_night-requires-clause-but

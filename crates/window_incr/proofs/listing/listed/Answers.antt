@@ -1,4 +1,4 @@
-use Rattle.std.proofs.Common.{List, sym, ap, subst, rules, of_calls}
+use Rattle.std.proofs.Common.{List, ap, subst, rules, of_calls}
 use Rattle.std.proofs.lemmas.Fn.{always_returns_same}
 use Rattle.sky_units.specs.TrackletData.{NightTracklets}
 use Rattle.sky_units.specs.Tracks.{AreMaximalTracks}
