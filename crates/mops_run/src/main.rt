@@ -24,8 +24,6 @@ mod laws;
 mod lines;
 mod linking;
 #[cfg(test)]
-mod many_tests;
-#[cfg(test)]
 mod night_tests;
 mod output;
 mod reading;
